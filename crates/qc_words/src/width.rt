@@ -1,4 +1,4 @@
-ghost use Rattle.std.specs.Prelude.{◌≡◌, ◌<◌, ◌⊎◌, IsNone, IfSome};
+ghost use Rattle.std.specs.Prelude.{◌≡◌, ◌<◌, ◌^◌, ◌⊎◌, ◌↔◌, IsTrue, IsNone, IfSome};
 
 use std::marker::Model;
 
@@ -22,6 +22,9 @@ impl Model for Width {
 impl Width {
     ghost use Rattle.qc_words.specs.Width.{IsWidth};
 
+    /// The width of a single bit.
+    pub const ONE: Width = Width(1);
+
     /// The width of `n` bits, where there is one.
     pub fn new(n: u8) -> Option<Width>
         ensures some { IfSome result (λ w. (w ≡ n) × IsWidth n) }
@@ -40,5 +43,27 @@ impl Width {
         ensures range { IsWidth result }
     {
         self.0
+    }
+
+    /// Whether the number is a word of this width.
+    pub fn holds(self, number: u64) -> bool
+        ensures { IsTrue result ↔ (number < 2 ^ self) }
+    {
+        u128::from(number) < 1u128 << self.0
+    }
+}
+
+#[cfg(test)]
+mod tests {
+    use super::*;
+
+    #[test]
+    fn ends(rt: HostRuntime) {
+        for (n, exists) in [(0, false), (1, true), (64, true), (65, false)] {
+            assert_eq!(rt; Width::new(n).is_some(), exists, "at {n}");
+        }
+        assert_eq!(rt; Width::ONE.bits(), 1);
+        assert!(rt; Width::ONE.holds(1));
+        assert!(rt; !Width::ONE.holds(2));
     }
 }

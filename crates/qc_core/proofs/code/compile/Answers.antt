@@ -1,0 +1,28 @@
+use Rattle.std.proofs.Common.{◌≡◌, refl, sym, ap, ◌∙◌, subst, length}
+use Rattle.std.specs.List.{flat_map}
+use Rattle.std.specs.Prelude.{◌++◌, []}
+use Rattle.qc_terms.specs.declared.image.Image.{Image}
+use Rattle.qc_core.specs.Agreement.{Agrees}
+use Rattle.qc_core.specs.Code.{instance_bytes, instructions_for, output_bytes, return_bytes}
+use Rattle.qc_core.proofs.Emitted.{code_bytes, code_size}
+use Rattle.qc_core.proofs.Agreement.{agreement}
+use Rattle.qc_core.proofs.code.compile.Goals as goal
+
+pub returns-clause-image : goal.returns-clause-image
+returns-clause-image c =
+    let descr = c.args.descr.now in
+    let program = c.args.program.now in
+    let outputs : c.push_outputs.new.code.items ≡ flat_map (output_bytes descr) program.outputs =
+    c.in_ok-push_outputs.ensures ∙ ap (λ xs. xs ++ flat_map (output_bytes descr) c.as_slice.result.now) c.new-code.ensures.items ∙ ap (flat_map (output_bytes descr)) c.as_slice.ensures in
+    let code : c.from_vec.result ≡ flat_map (instance_bytes descr) (instructions_for program) =
+    c.from_vec.ensures ∙ c.in_ok-push_return.ensures ∙ ap (λ xs. xs ++ return_bytes descr program.returned) outputs ∙ sym (code_bytes descr program) in
+    rw (code, c.new.ensures) refl
+
+pub returns-clause-agrees : goal.returns-clause-agrees
+returns-clause-agrees c =
+    subst (Agrees c.args.descr.now c.args.program.now) (sym (returns-clause-image c))
+    (rw c.requires.machine (agreement c.one_instance.ensures c.args.program.now c.requires.program))
+
+pub returns-clause-size : goal.returns-clause-size
+returns-clause-size c =
+    ap (λ (image : Image). length image.code) (returns-clause-image c) ∙ rw c.requires.machine (code_size c.args.program.now)

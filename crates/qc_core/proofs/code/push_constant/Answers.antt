@@ -1,0 +1,6 @@
+use Rattle.qc_core.proofs.Emitted.{load_is_instance}
+use Rattle.qc_core.proofs.code.push_constant.Goals as goal
+
+pub push_instruction-requires-clause-instance : goal.push_instruction-requires-clause-instance
+push_instruction-requires-clause-instance c =
+    rw (c.requires.machine, c.from.ensures) (load_is_instance c.args.word c.ranges.word.fits)

@@ -1,0 +1,25 @@
+-- The files of a shelf: a finite map from names to contents.
+use Rattle.std.specs.Prelude.{ℕ, ◌≡◌, ◌≢◌, List, [], Option, Some, is_some, IfSome, unwrap_or}
+use Rattle.std.specs.Ordering.{nat_cmp}
+use Rattle.std.specs.Cmp.Lexicographic.{slice_cmp}
+use Rattle.std.specs.FinMap.{FinMap, get}
+
+abbrev pub Files : Type 0
+Files = FinMap (slice_cmp nat_cmp) (List ℕ)
+
+-- the content of a file; one that isn't there has no byte
+abbrev pub content_of : Files → List ℕ → List ℕ
+content_of files name = unwrap_or (get files name) []
+
+-- the most bytes that a file may have
+unfoldable pub file_limit : ℕ
+file_limit = 4194304
+
+-- every file but the named one is as before
+abbrev pub OthersStay : List ℕ → Files → Files → Type 0
+OthersStay name old new = (other : List ℕ) → other ≢ name → get new other ≡ get old other
+
+-- the same where the files are told, which doesn't change
+abbrev pub OthersStayTold : List ℕ → Option Files → Option Files → Type 0
+OthersStayTold name old new =
+    (is_some new ≡ is_some old) × IfSome old (λ o. IfSome new (λ n. OthersStay name o n))

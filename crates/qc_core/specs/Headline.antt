@@ -1,0 +1,22 @@
+-- What it means that a program was compiled.
+use Rattle.std.specs.Prelude.{ℕ, ◌≡◌, List, Option, IfSome}
+use Rattle.qc_terms.specs.declared.image.Image.{Image}
+use Rattle.qc_core.specs.declared.constants.ConstantProgram.{ConstantProgram}
+use Rattle.qc_core.specs.Agreement.{Agrees}
+use Rattle.qc_core.specs.Answer.{IsAccepted, name_of}
+use Rattle.qc_core.specs.Files.{Files, content_of}
+use Rattle.qc_core.specs.ImageFile.{image_bytes}
+use Rattle.qc_core.specs.Tin32.{tin32}
+
+-- The files of numbers 1 to 4, as they were before, stand for tin32 and spell a program. The file of number 5, as it is
+-- after, is an image that agrees with the program on every input.
+pub record IsCompiled (names : List (List ℕ)) (before after : Files) : Type 0 where
+  pub program : ConstantProgram
+  pub accepted : IsAccepted before names program
+  pub image : Image
+  pub file : content_of after (name_of names 5) ≡ image_bytes image
+  pub agrees : Agrees tin32 program image
+
+-- the same where the files are told
+abbrev pub IsCompiledTold : List (List ℕ) → Option Files → Option Files → Type 0
+IsCompiledTold names before after = IfSome before (λ b. IfSome after (λ a. IsCompiled names b a))

@@ -1,0 +1,17 @@
+-- The file of an image.
+use Rattle.std.specs.Prelude.{ℕ, List, [], ◌∷◌, ◌++◌, length, codes}
+use Rattle.std.specs.Int.{to_le_bytes, w32}
+use Rattle.qc_terms.specs.declared.state.Order.{Order}
+use Rattle.qc_terms.specs.declared.state.Order.TheVariants.{Little, Big}
+use Rattle.qc_terms.specs.declared.image.Image.{Image}
+
+abbrev pub order_byte : Order → ℕ
+order_byte Little = 0
+order_byte Big = 1
+
+-- Four bytes that mark such a file, the word's width, the byte order, two zero bytes, the lengths of the code and of
+-- the data in four bytes each, the lowest first, and then the code and the data.
+unfoldable pub image_bytes : Image → List ℕ
+image_bytes image =
+    (codes "QCI1" ++ image.word ∷ order_byte image.order ∷ 0 ∷ 0 ∷ [])
+    ++ (to_le_bytes w32 (length image.code) ++ (to_le_bytes w32 (length image.initial) ++ (image.code ++ image.initial)))

@@ -1,0 +1,38 @@
+-- Files that lie in memory, as pairs of a name and a content.
+use Rattle.std.specs.Prelude.{ℕ, List, map, String, Vec, string_bytes, ◌≡◌, ◌≢◌, ◌<◌, Some}
+use Rattle.std.specs.List.{slice_get}
+use Rattle.std.specs.FinMap.{from_entries}
+use Rattle.std.specs.declared.alloc.Global.{Global}
+use Rattle.qc_core.specs.Files.{Files}
+use Rattle.qc_core.specs.declared.memory_files.MemShelf.{MemShelf}
+
+-- a name and a content
+abbrev pub File : Type 0
+File = String Global × Vec ℕ Global
+
+-- their bytes
+abbrev pub entries_of : List File → List (List ℕ × List ℕ)
+entries_of files = map (λ file. (string_bytes file.0, file.1.items)) files
+
+-- the map of the pairs; of two with one name the first counts
+abbrev pub files_from : List File → Files
+files_from files = from_entries (entries_of files)
+
+-- the files of a shelf
+abbrev pub files_of : MemShelf → Files
+files_of shelf = files_from shelf.files.items
+
+-- how many calls of a shelf have failed
+abbrev pub faults_of : MemShelf → ℕ
+faults_of shelf = shelf.calls.faults
+
+-- no pair before the place has the name
+abbrev pub NoneBefore : List File → List ℕ → ℕ → Type 0
+NoneBefore files name place = (k : ℕ) → k < place → (file : File) → slice_get files k ≡ Some file → string_bytes file.0 ≢ name
+
+-- the pair at the place is the first of the name
+pub record IsFirst (files : List File) (name : List ℕ) (place : ℕ) : Type 0 where
+  pub file : File
+  pub here : slice_get files place ≡ Some file
+  pub named : string_bytes file.0 ≡ name
+  pub before : NoneBefore files name place

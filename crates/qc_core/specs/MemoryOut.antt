@@ -1,0 +1,11 @@
+-- An output that lies in memory.
+use Rattle.std.specs.Prelude.{ℕ, List}
+use Rattle.qc_core.specs.declared.memory_out.MemOut.{MemOut}
+
+-- the bytes so far
+abbrev pub written_of : MemOut → List ℕ
+written_of out = out.written.items
+
+-- how many calls have failed
+abbrev pub faults_of : MemOut → ℕ
+faults_of out = out.calls.faults

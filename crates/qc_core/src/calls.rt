@@ -1,0 +1,44 @@
+//! Calls that are told to fail.
+ghost use Rattle.std.specs.Prelude.{◌≡◌, ◌≤◌, IsTrue};
+ghost use Rattle.qc_core.specs.Faults.{Rose};
+
+/// The calls made so far, from 1, the numbers of those that fail, and how many have failed.
+#[derive(Debug, Drop)]
+pub(crate) struct Calls {
+    failing: Vec<u64>,
+    made: u64,
+    pub(crate) faults: u64,
+}
+
+impl Calls {
+    pub(crate) fn new(failing: Vec<u64>) -> Calls
+        ensures { result.faults ≡ 0 }
+    {
+        Calls {
+            failing,
+            made: 0,
+            faults: 0,
+        }
+    }
+
+    /// Counts a fault.
+    pub(crate) fn fail(&mut self)
+        ensures rose { Rose self.old.faults self.new.faults }
+        ensures later { self.old.faults ≤ self.new.faults }
+    {
+        self.faults = self.faults.saturating_add(1);
+    }
+
+    /// Begins the next call, and counts a fault where it is to fail.
+    pub(crate) fn begin_fails(&mut self) -> bool
+        ensures rose { IsTrue result → Rose self.old.faults self.new.faults }
+        ensures later { self.old.faults ≤ self.new.faults }
+    {
+        self.made = self.made.saturating_add(1);
+        let fails = self.failing.contains(&self.made);
+        if fails {
+            self.fail();
+        }
+        fails
+    }
+}

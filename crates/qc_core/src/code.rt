@@ -1,0 +1,131 @@
+//! The code of programs of constants.
+ghost use Rattle.std.specs.Prelude.{◌≡◌, ◌+◌, ◌*◌, ◌++◌, length, IfOk, OnOk};
+ghost use Rattle.std.specs.List.{flat_map};
+ghost use Rattle.qc_core.specs.Agreement.{Agrees};
+ghost use Rattle.qc_core.specs.Code.{image_of, instance_bytes, load_constant, output_bytes, return_bytes};
+ghost use Rattle.qc_core.specs.ConstantProgram.{IsConstantProgram};
+ghost use Rattle.qc_core.specs.Instance.{IsInstance};
+ghost use Rattle.qc_core.specs.Tin32.{tin32};
+ghost use Rattle.qc_descr.specs.Valid.{IsValid};
+
+use crate::constants::ConstantProgram;
+use crate::encoding::encode;
+use qc_descr::{Description, Instance, Operands, one_instance};
+use qc_terms::Image;
+use sqlite_items::Items;
+use std::alloc::{AllocError, Global};
+
+/// The numbers of the instructions in the description.
+const LOAD_CONSTANT: u32 = 0;
+
+const PUT_CELL: u32 = 1;
+
+const HALT_WITH_CELL: u32 = 2;
+
+/// The cell that each constant goes through.
+const CELL: u64 = 0;
+
+/// Puts the bytes of an instruction with its operands at the end of the code.
+fn push_instruction(
+    alloc: Global,
+    code: &mut Vec<u8>,
+    descr: &Description,
+    instruction: u32,
+    operands: &[u64],
+) -> Result<(), AllocError>
+    requires valid { IsValid descr.now }
+    requires instance { IsInstance descr.now instruction operands.now }
+    ensures { OnOk result (code.new.items ≡ code.old.items ++ instance_bytes descr.now (record { number = instruction; operands = operands.now })) }
+{
+    let operands = Operands::from_slice(alloc, operands)?;
+    let instance = Instance {
+        instruction,
+        operands,
+    };
+    let mut bytes = [0; 16];
+    let size = encode(descr, &instance, &mut bytes);
+    code.extend_from_slice(&bytes[..size])
+}
+
+fn push_constant(
+    alloc: Global,
+    code: &mut Vec<u8>,
+    descr: &Description,
+    word: u32,
+) -> Result<(), AllocError>
+    requires valid { IsValid descr.now }
+    requires machine { descr.now ≡ tin32 }
+    ensures { OnOk result (code.new.items ≡ code.old.items ++ instance_bytes descr.now (load_constant word)) }
+{
+    push_instruction(alloc, code, descr, LOAD_CONSTANT, &[CELL, u64::from(word)])
+}
+
+fn push_output(
+    alloc: Global,
+    code: &mut Vec<u8>,
+    descr: &Description,
+    word: u32,
+) -> Result<(), AllocError>
+    requires valid { IsValid descr.now }
+    requires machine { descr.now ≡ tin32 }
+    ensures { OnOk result (code.new.items ≡ code.old.items ++ output_bytes descr.now word) }
+{
+    push_constant(alloc, code, descr, word)?;
+    push_instruction(alloc, code, descr, PUT_CELL, &[CELL])
+}
+
+fn push_return(
+    alloc: Global,
+    code: &mut Vec<u8>,
+    descr: &Description,
+    word: u32,
+) -> Result<(), AllocError>
+    requires valid { IsValid descr.now }
+    requires machine { descr.now ≡ tin32 }
+    ensures { OnOk result (code.new.items ≡ code.old.items ++ return_bytes descr.now word) }
+{
+    push_constant(alloc, code, descr, word)?;
+    push_instruction(alloc, code, descr, HALT_WITH_CELL, &[CELL])
+}
+
+/// Puts the code of the outputs of these words at the end of the code.
+fn push_outputs(
+    alloc: Global,
+    code: &mut Vec<u8>,
+    descr: &Description,
+    words: &[u32],
+) -> Result<(), AllocError>
+    requires valid { IsValid descr.now }
+    requires machine { descr.now ≡ tin32 }
+    ensures { OnOk result (code.new.items ≡ code.old.items ++ flat_map (output_bytes descr.now) words.now) }
+{
+    for word in words {
+        push_output(alloc, code, descr, *word)?;
+    }
+    Ok(())
+}
+
+/// The image of a program. On every input it shows, run on the machine, what the program shows.
+pub fn compile(
+    alloc: Global,
+    descr: &Description,
+    program: &ConstantProgram,
+) -> Result<Image, AllocError>
+    requires valid { IsValid descr.now }
+    requires machine { descr.now ≡ tin32 }
+    requires program { IsConstantProgram program.now }
+    ensures image { IfOk result (λ image. image ≡ image_of descr.now program.now) }
+    ensures size { IfOk result (λ image. length image.code ≡ 16 * (length program.now.outputs + 1)) }
+    ensures agrees { IfOk result (Agrees descr.now program.now) }
+{
+    one_instance();
+    let mut code = Vec::new(alloc);
+    push_outputs(alloc, &mut code, descr, program.outputs.as_slice())?;
+    push_return(alloc, &mut code, descr, program.returned)?;
+    Ok(Image {
+        word: descr.facts.word,
+        order: descr.facts.order,
+        code: Items::from_vec(code),
+        initial: Items::new(alloc),
+    })
+}

@@ -1,0 +1,136 @@
+//! The commands, and the one call that the program makes.
+ghost use Rattle.std.specs.Prelude.{◌≡◌, ◌≤◌, ℕ, List, drop, string_bytes, IfOk};
+ghost use Rattle.qc_core.specs.Answer.{Finishes, IsAnswer, Leaves, TellsImage, TellsRefusal};
+ghost use Rattle.qc_core.specs.Code.{image_of};
+ghost use Rattle.qc_core.specs.Command.{texts_of, IsCommand};
+ghost use Rattle.qc_core.specs.ConstantProgram.{IsConstantProgram};
+ghost use Rattle.qc_core.specs.Headline.{IsCompiledTold};
+ghost use Rattle.qc_core.specs.ImageFile.{image_bytes};
+ghost use Rattle.qc_core.specs.Tin32 as spec;
+
+use crate::answer::{Fault, Status};
+use crate::code::compile;
+use crate::constants::ConstantProgram;
+use crate::image_file::write_image;
+use crate::inputs::{file_word, read_inputs};
+use crate::lines::{compiled_line, refusal_line};
+use crate::machines::tin32;
+use crate::outside::{Out, Shelf, StoreEnd};
+use crate::words::wrong_word;
+use qc_descr::one_instance;
+use qc_terms::Image;
+use std::alloc::{AllocError, Global};
+
+/// The number of the image among the files.
+const IMAGE: usize = 5;
+
+/// The image of a program, and its file.
+fn image_file(alloc: Global, program: &ConstantProgram) -> Result<(Image, Vec<u8>), AllocError>
+    requires { IsConstantProgram program.now }
+    ensures image { IfOk result (λ r. r.0 ≡ image_of spec.tin32 program.now) }
+    ensures file { IfOk result (λ r. r.1.items ≡ image_bytes r.0) }
+{
+    let descr = tin32(alloc)?;
+    let image = compile(alloc, &descr, program)?;
+    let file = write_image(alloc, &image)?;
+    Ok((image, file))
+}
+
+/// Puts the line of an image that was compiled.
+fn tell_image<O: Out>(alloc: Global, out: &mut O, image: &Image) -> Status
+    ensures told { TellsImage image.now (O.written out.old) (O.written out.new) (O.faults out.old) (O.faults out.new) result }
+    ensures later { O.faults out.old ≤ O.faults out.new }
+{
+    let line = match compiled_line(alloc, image) {
+        Ok(line) => line,
+        Err(_) => return Status::NoMemory,
+    };
+    match out.put(alloc, line.as_bytes()) {
+        Ok(()) => Status::Done,
+        Err(StoreEnd::Failed) => Status::OutFault,
+        Err(StoreEnd::NoMemory) => Status::NoMemory,
+    }
+}
+
+/// Puts the line of a refusal. Where this fails the refusal stands.
+fn tell_refusal<O: Out>(alloc: Global, out: &mut O, fault: Fault) -> Status
+    ensures told { TellsRefusal fault (O.written out.old) (O.written out.new) (O.faults out.old) (O.faults out.new) result }
+    ensures later { O.faults out.old ≤ O.faults out.new }
+{
+    let line = match refusal_line(alloc, fault) {
+        Ok(line) => line,
+        Err(_) => return Status::NoMemory,
+    };
+    match out.put(alloc, line.as_bytes()) {
+        Ok(()) | Err(StoreEnd::Failed) => Status::Refused { fault },
+        Err(StoreEnd::NoMemory) => Status::NoMemory,
+    }
+}
+
+/// Writes the image of a program, and puts its line.
+fn finish<S: Shelf, O: Out>(
+    alloc: Global,
+    program: &ConstantProgram,
+    name: &String,
+    shelf: &mut S,
+    out: &mut O,
+) -> Status
+    requires { IsConstantProgram program.now }
+    ensures finished { Finishes program.now (string_bytes name.now)
+        (record { files = S.files shelf.old; shelf_faults = S.faults shelf.old; written = O.written out.old; out_faults = O.faults out.old })
+        (record { files = S.files shelf.new; shelf_faults = S.faults shelf.new; written = O.written out.new; out_faults = O.faults out.new })
+        result }
+{
+    let (image, file) = match image_file(alloc, program) {
+        Ok(both) => both,
+        Err(_) => return Status::NoMemory,
+    };
+    match shelf.write(alloc, name, file.as_slice()) {
+        Ok(()) => tell_image(alloc, out, &image),
+        Err(StoreEnd::Failed) => Status::WriteFault,
+        Err(StoreEnd::NoMemory) => Status::NoMemory,
+    }
+}
+
+/// The command `compile`.
+fn compile_command<S: Shelf, O: Out>(
+    alloc: Global,
+    words: &Vec<String>,
+    shelf: &mut S,
+    out: &mut O,
+) -> Status
+    requires { IsCommand (texts_of words.now.items) (drop 1 (texts_of words.now.items)) }
+    ensures leaves { Leaves (drop 1 (texts_of words.now.items))
+        (record { files = S.files shelf.old; shelf_faults = S.faults shelf.old; written = O.written out.old; out_faults = O.faults out.old })
+        (record { files = S.files shelf.new; shelf_faults = S.faults shelf.new; written = O.written out.new; out_faults = O.faults out.new })
+        result }
+{
+    match read_inputs(alloc, words, shelf) {
+        Ok(program) => finish(alloc, &program, file_word(words, IMAGE), shelf, out),
+        Err(Status::Refused { fault }) => tell_refusal(alloc, out, fault),
+        Err(status) => status,
+    }
+}
+
+/// Does what the words say, and answers how it went.
+///
+/// The words are those after the program's name. The files are those of the shelf, and lines are put to the output.
+pub fn quick<S: Shelf, O: Out>(
+    alloc: Global,
+    words: &Vec<String>,
+    shelf: &mut S,
+    out: &mut O,
+) -> Status
+    ensures answer { IsAnswer (texts_of words.now.items)
+        (record { files = S.files shelf.old; shelf_faults = S.faults shelf.old; written = O.written out.old; out_faults = O.faults out.old })
+        (record { files = S.files shelf.new; shelf_faults = S.faults shelf.new; written = O.written out.new; out_faults = O.faults out.new })
+        result }
+    // On every input the image that was written shows, run on the machine, what the program shows.
+    ensures compiled { result ≡ Status.Done → (names : List (List ℕ)) × IsCommand (texts_of words.now.items) names × IsCompiledTold names (S.files shelf.old) (S.files shelf.new) }
+{
+    one_instance();
+    match wrong_word(words) {
+        Some(word) => Status::Usage { word },
+        None => compile_command(alloc, words, shelf, out),
+    }
+}

@@ -1,0 +1,35 @@
+//! The commands of the program, and the calls that they are made of.
+#![tactic(auto)]
+
+mod answer;
+mod calls;
+mod code;
+mod coding_bytes;
+mod command;
+mod constants;
+mod decoding;
+mod encoding;
+mod image_file;
+mod inputs;
+mod lines;
+mod machine;
+mod machines;
+mod memory_files;
+mod memory_out;
+mod numeral;
+mod outside;
+mod reader;
+mod words;
+
+pub use answer::{Fault, Status};
+pub use code::compile;
+pub use command::quick;
+pub use constants::ConstantProgram;
+pub use decoding::decode;
+pub use encoding::encode;
+pub use image_file::write_image;
+pub use machine::Machine;
+pub use machines::tin32;
+pub use memory_files::MemShelf;
+pub use memory_out::MemOut;
+pub use outside::{Out, ReadEnd, Shelf, StoreEnd};

@@ -1,0 +1,143 @@
+ghost use Rattle.std.specs.Prelude.{◌≡◌, ◌+◌, ◌<◌, ◌≤◌, ◌%◌, ◌^◌, All, IfOk, map, replicate};
+ghost use Rattle.qc_core.specs.Machine.{IsMachineOf};
+ghost use Rattle.qc_descr.specs.Description.{widths_of, counts_of};
+ghost use Rattle.qc_descr.specs.Loading.{FitsMachine, loaded};
+ghost use Rattle.qc_descr.specs.Loading.{loaded_memory as memory_of_image};
+ghost use Rattle.qc_descr.specs.Step.{Steps};
+ghost use Rattle.qc_descr.specs.Valid.{HasLayout, IsValid};
+
+use crate::decoding::decode;
+use qc_descr::Description;
+use qc_terms::{Cells, Event, Image, State, apply_rtl};
+use qc_words::Width;
+use sqlite_items::Items;
+use std::alloc::{AllocError, Global};
+use std::marker::Model;
+
+/// A machine that runs an image. Contracts see it as its state.
+#[derive(Debug, Drop)]
+pub struct Machine {
+    alloc: Global,
+    state: State,
+}
+
+impl Model for Machine {
+    ghost use Rattle.qc_terms.specs.declared.state.State.{State};
+    ghost use Rattle.qc_terms.specs.State.{IsState};
+
+    ghost Value = { State };
+
+    ghost view = { λ m. m.state };
+
+    ghost invariant = { λ m. IsState m.state };
+}
+
+/// The widths of a description's spaces.
+fn widths(alloc: Global, descr: &Description) -> Result<Items<Width>, AllocError>
+    ensures { IfOk result (λ widths. widths ≡ widths_of descr.now) }
+{
+    let widths: Vec<Width> = descr
+        .spaces
+        .as_slice()
+        .iter()
+        .map(|space| space.width)
+        .collect(alloc)?;
+    Ok(Items::from_vec(widths))
+}
+
+/// The cells of a description's spaces, all 0.
+fn cells(alloc: Global, descr: &Description) -> Result<Cells, AllocError>
+    ensures { IfOk result (λ cells. cells ≡ map (λ count. replicate count 0) (counts_of descr.now)) }
+{
+    let counts: Vec<u32> = descr
+        .spaces
+        .as_slice()
+        .iter()
+        .map(|space| space.cells)
+        .collect(alloc)?;
+    Cells::zeroed(alloc, counts.as_slice())
+}
+
+/// The memory in which an image is loaded.
+fn loaded_memory(alloc: Global, descr: &Description, image: &Image) -> Result<Items<u8>, AllocError>
+    requires layout { HasLayout descr.now }
+    requires fits { FitsMachine descr.now image.now }
+    ensures { IfOk result (λ memory. memory ≡ memory_of_image descr.now image.now) }
+{
+    let mut memory = Vec::with_capacity(alloc, descr.memory as usize)?;
+    memory.extend_from_slice(image.code.as_slice())?;
+    memory.resize(descr.code_end as usize, 0)?;
+    memory.extend_from_slice(image.initial.as_slice())?;
+    memory.resize(descr.memory as usize, 0)?;
+    Ok(Items::from_vec(memory))
+}
+
+/// The address after an instruction of so many bytes at `pc`.
+fn address_after(word: Width, pc: u64, size: usize) -> u64
+    requires pc { pc < 2 ^ word }
+    ensures value { result ≡ (pc + size) % 2 ^ word }
+    ensures word { result < 2 ^ word }
+{
+    ((u128::from(pc) + size as u128) % (1u128 << word.bits())) as u64
+}
+
+impl Machine {
+    /// A machine that is about to run an image with this input. It takes all memory of the run.
+    pub fn open(
+        alloc: Global,
+        descr: &Description,
+        image: &Image,
+        input: Vec<u64>,
+    ) -> Result<Machine, AllocError>
+        requires valid { IsValid descr.now }
+        requires fits { FitsMachine descr.now image.now }
+        requires words { All (λ word. word < 2 ^ descr.now.facts.word) input.items }
+        ensures loaded { IfOk result (λ machine. machine ≡ loaded descr.now image.now input.items) }
+        ensures made { IfOk result (IsMachineOf descr.now) }
+    {
+        let state = State {
+            facts: descr.facts,
+            widths: widths(alloc, descr)?,
+            cells: cells(alloc, descr)?,
+            memory: loaded_memory(alloc, descr, image)?,
+            pc: 0,
+            input: Items::from_vec(input),
+            taken: 0,
+            ending: None,
+        };
+        Ok(Machine { alloc, state })
+    }
+
+    /// The machine's state.
+    pub fn state(&self) -> &State
+        ensures { result.now ≡ self.now }
+    {
+        &self.state
+    }
+
+    /// One step, and what it shows. A machine that has ended stays as it is, and shows its end again.
+    pub fn step(&mut self, descr: &Description) -> Event
+        requires valid { IsValid descr.now }
+        requires made { IsMachineOf descr.now self.old }
+        ensures step { Steps descr.now self.old (record { state = self.new; event = result }) }
+        ensures kept { IsMachineOf descr.now self.new }
+    {
+        if let Some(event) = self.state.ending {
+            return event;
+        }
+        let memory = self.state.memory.as_slice();
+        let Some((instance, size)) = decode(self.alloc, descr, memory, self.state.pc) else {
+            let trap = Event::Trapped { code: 4 };
+            self.state.ending = Some(trap);
+            return trap;
+        };
+        let instruction = &descr.instructions.as_slice()[instance.instruction as usize];
+        let after = address_after(self.state.facts.word, self.state.pc, size);
+        apply_rtl(
+            &instruction.rtl,
+            instance.operands.as_slice(),
+            after,
+            &mut self.state,
+        )
+    }
+}

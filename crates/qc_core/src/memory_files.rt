@@ -1,0 +1,132 @@
+//! Files that lie in memory.
+ghost use Rattle.std.specs.Prelude.{◌≡◌, ◌<◌, ◌↔◌, ℕ, Some, IsTrue, IfOk, OnOk, OnErr, IfSome, IsNone, length, string_bytes, option_copied};
+ghost use Rattle.std.specs.FinMap.{get, insert};
+ghost use Rattle.qc_core.specs.Files.{file_limit};
+ghost use Rattle.qc_core.specs.MemoryFiles.{files_from, files_of, faults_of, NoneBefore, IsFirst};
+
+use crate::calls::Calls;
+use crate::outside::{ReadEnd, Shelf, StoreEnd};
+use std::alloc::{AllocError, Global};
+
+const FILE_LIMIT: usize = 4_194_304;
+
+#[tactic(auto, unfolding(crate::specs::Files::file_limit))]
+fn is_too_long(len: usize) -> bool
+    ensures { IsTrue result ↔ (file_limit < len) }
+{
+    len > FILE_LIMIT
+}
+
+fn copied(alloc: Global, bytes: &[u8]) -> Result<Vec<u8>, AllocError>
+    ensures { IfOk result (λ copy. copy.items ≡ bytes.now) }
+{
+    let mut copy = Vec::new(alloc);
+    copy.extend_from_slice(bytes)?;
+    Ok(copy)
+}
+
+/// The place of the first pair of the name, from 0.
+fn place_of(files: &Vec<(String, Vec<u8>)>, name: &String) -> Option<usize>
+    ensures some { IfSome result (IsFirst files.now.items (string_bytes name.now)) }
+    ensures none { IsNone result → NoneBefore files.now.items (string_bytes name.now) (length files.now.items) }
+{
+    for (place, file) in files.iter().enumerate() {
+        if file.0 == *name {
+            return Some(place);
+        }
+    }
+    None
+}
+
+fn content<'a>(files: &'a Vec<(String, Vec<u8>)>, name: &String) -> Option<&'a [u8]>
+    ensures { option_copied result ≡ get (files_from files.now.items) (string_bytes name.now) }
+{
+    match place_of(files, name) {
+        Some(place) => Some(files[place].1.as_slice()),
+        None => None,
+    }
+}
+
+/// Binds the name to the bytes, in the first pair of the name or in a new one at the end.
+fn bind(
+    files: &mut Vec<(String, Vec<u8>)>,
+    alloc: Global,
+    name: &String,
+    bytes: &[u8],
+) -> Result<(), AllocError>
+    ensures ok { OnOk result (files_from files.new.items ≡ insert (files_from files.old.items) (string_bytes name.now) bytes.now) }
+    ensures err { OnErr result (files.new.items ≡ files.old.items) }
+{
+    let copy = copied(alloc, bytes)?;
+    match place_of(files, name) {
+        Some(place) => files[place].1 = copy,
+        None => files.push((name.clone()?, copy))?,
+    }
+    Ok(())
+}
+
+/// Files in memory, of which chosen calls fail.
+///
+/// Reads and writes are counted together, from 1. A call whose number is among those that are to fail is a fault, and
+/// so is the read of a file that isn't there.
+#[derive(Debug, Drop)]
+pub struct MemShelf {
+    files: Vec<(String, Vec<u8>)>,
+    calls: Calls,
+}
+
+impl MemShelf {
+    /// Of two pairs with one name the first counts.
+    pub fn new(files: Vec<(String, Vec<u8>)>, failing: Vec<u64>) -> MemShelf
+        ensures files { files_of result ≡ files_from files.items }
+        ensures faults { faults_of result ≡ 0 }
+    {
+        MemShelf {
+            files,
+            calls: Calls::new(failing),
+        }
+    }
+
+    /// The content of a file.
+    pub fn file(&self, name: &String) -> Option<&[u8]>
+        ensures { option_copied result ≡ get (files_of self.now) (string_bytes name.now) }
+    {
+        content(&self.files, name)
+    }
+}
+
+impl Shelf for MemShelf {
+    ghost files = { λ shelf. Some (files_of shelf) };
+
+    ghost faults = { faults_of };
+
+    fn read(&mut self, alloc: Global, name: &String) -> Result<Vec<u8>, ReadEnd> {
+        if self.calls.begin_fails() {
+            return Err(ReadEnd::Failed);
+        }
+        match content(&self.files, name) {
+            None => {
+                self.calls.fail();
+                Err(ReadEnd::Failed)
+            }
+            Some(bytes) if is_too_long(bytes.len()) => Err(ReadEnd::TooLong),
+            Some(bytes) => match copied(alloc, bytes) {
+                Ok(copy) => Ok(copy),
+                Err(_) => Err(ReadEnd::NoMemory),
+            },
+        }
+    }
+
+    fn write(&mut self, alloc: Global, name: &String, bytes: &[u8]) -> Result<(), StoreEnd> {
+        if self.calls.begin_fails() {
+            return Err(StoreEnd::Failed);
+        }
+        match bind(&mut self.files, alloc, name, bytes) {
+            Ok(()) => Ok(()),
+            Err(_) => Err(StoreEnd::NoMemory),
+        }
+    }
+}
+
+#[cfg(test)]
+mod tests;

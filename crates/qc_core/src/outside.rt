@@ -1,0 +1,71 @@
+ghost use Rattle.std.specs.Prelude.{◌≡◌, ◌≤◌, ◌<◌, ◌++◌, ℕ, List, Option, Some, is_some, length, string_bytes, IfOk, IfSome, OnOk, IsErrOf};
+ghost use Rattle.std.specs.Option.{option_map};
+ghost use Rattle.std.specs.FinMap.{insert};
+ghost use Rattle.qc_core.specs.Faults.{Rose};
+ghost use Rattle.qc_core.specs.Files.{Files, content_of, file_limit, OthersStayTold};
+
+use std::alloc::Global;
+
+/// Why a file was not read.
+#[derive(Clone, Copy, Debug, PartialEq, Eq)]
+pub enum ReadEnd {
+    Failed,
+    /// The file has more than 4,194,304 bytes.
+    TooLong,
+    NoMemory,
+}
+
+/// Why bytes were not stored.
+#[derive(Clone, Copy, Debug, PartialEq, Eq)]
+pub enum StoreEnd {
+    Failed,
+    NoMemory,
+}
+
+/// Files by name.
+///
+/// A shelf may tell its files, which are then a map from names to contents, and counts its faults. The count never
+/// falls, and stands still at its last value.
+pub trait Shelf {
+    /// The files, where they are told.
+    ghost files: { Self → Option Files };
+
+    /// How many calls have failed.
+    ghost faults: { Self → ℕ };
+
+    /// The content of a file.
+    fn read(&mut self, alloc: Global, name: &String) -> Result<Vec<u8>, ReadEnd>
+        ensures limit { IfOk result (λ bytes. length bytes.items ≤ file_limit) }
+        ensures content { IfOk result (λ bytes. IfSome (files self.old) (λ f. bytes.items ≡ content_of f (string_bytes name.now))) }
+        ensures too_long { IsErrOf result ReadEnd.TooLong → IfSome (files self.old) (λ f. file_limit < length (content_of f (string_bytes name.now))) }
+        ensures failed { IsErrOf result ReadEnd.Failed → Rose (faults self.old) (faults self.new) }
+        ensures files { files self.new ≡ files self.old }
+        ensures later { faults self.old ≤ faults self.new };
+
+    /// Binds the name to the bytes.
+    fn write(&mut self, alloc: Global, name: &String, bytes: &[u8]) -> Result<(), StoreEnd>
+        ensures ok { OnOk result (files self.new ≡ option_map (λ f. insert f (string_bytes name.now) bytes.now) (files self.old)) }
+        ensures failed { IsErrOf result StoreEnd.Failed → Rose (faults self.old) (faults self.new) }
+        ensures others { OthersStayTold (string_bytes name.now) (files self.old) (files self.new) }
+        ensures no_memory { IsErrOf result StoreEnd.NoMemory → files self.new ≡ files self.old }
+        ensures later { faults self.old ≤ faults self.new };
+}
+
+/// Where lines are put.
+///
+/// An output may tell the bytes that it was given, and counts its faults as a shelf does.
+pub trait Out {
+    /// The bytes so far, where they are told.
+    ghost written: { Self → Option (List ℕ) };
+
+    /// How many calls have failed.
+    ghost faults: { Self → ℕ };
+
+    /// Puts the piece after the bytes so far. Where this fails, a front of the piece may have been put.
+    fn put(&mut self, alloc: Global, piece: &[u8]) -> Result<(), StoreEnd>
+        ensures ok { OnOk result (written self.new ≡ option_map (λ w. w ++ piece.now) (written self.old)) }
+        ensures failed { IsErrOf result StoreEnd.Failed → Rose (faults self.old) (faults self.new) }
+        ensures front { (part more : List ℕ) × (piece.now ≡ part ++ more) × (written self.new ≡ option_map (λ w. w ++ part) (written self.old)) }
+        ensures no_memory { IsErrOf result StoreEnd.NoMemory → written self.new ≡ written self.old }
+        ensures later { faults self.old ≤ faults self.new };
+}

@@ -1,0 +1,6 @@
+pub mod Apart
+pub mod Bits
+pub mod Operands
+pub mod Runs
+pub mod Search
+pub mod Uniqueness

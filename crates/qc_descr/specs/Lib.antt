@@ -1,0 +1,15 @@
+pub mod Coding
+pub mod Description
+pub mod Encoding
+pub mod Loading
+pub mod Step
+pub mod Valid
+pub use Rattle.qc_words.specs.Operators
+pub use Rattle.qc_words.specs.Width
+pub use Rattle.qc_terms.specs.Cells
+pub use Rattle.qc_terms.specs.Effects
+pub use Rattle.qc_terms.specs.Observation
+pub use Rattle.qc_terms.specs.State
+pub use Rattle.qc_terms.specs.Tree
+pub use Rattle.qc_terms.specs.Typing
+pub use Rattle.qc_terms.specs.Value

@@ -1,0 +1,149 @@
+-- Valid descriptions.
+use Rattle.std.specs.Prelude.{ℕ, zero, suc, ◌≡◌, ◌≢◌, ◌<◌, ◌≤◌, ◌+◌, ◌/◌, ◌%◌, ◌^◌, ◌⊎◌, List, [], ◌∷◌, length, sum, map, count_by, slice_get, slice_index, All, Contains, IsTrue, Bool, true, false, ◌&&◌, ◌||◌, if◌then◌else◌, nat_eq, nat_lt, Some, IfSome}
+use Rattle.std.specs.List.{list_all}
+use Rattle.qc_terms.specs.declared.state.Order.{Order}
+use Rattle.qc_terms.specs.declared.term.Dest.{Dest}
+use Rattle.qc_terms.specs.declared.term.Dest.TheVariants as dest
+use Rattle.qc_terms.specs.declared.term.Effect.{Effect}
+use Rattle.qc_terms.specs.declared.term.Place.{Place}
+use Rattle.qc_terms.specs.declared.term.Place.TheVariants as place
+use Rattle.qc_terms.specs.Tree.{Tree, Number, Unary, Binary, Register, Immediate, tree_of}
+use Rattle.qc_terms.specs.Typing.{IsTypedRtl}
+use Rattle.qc_descr.specs.declared.coding.Bit.{Bit}
+use Rattle.qc_descr.specs.declared.coding.Bit.TheVariants.{Fixed, Piece}
+use Rattle.qc_descr.specs.declared.coding.Coding.{Coding}
+use Rattle.qc_descr.specs.declared.description.Description.{Description}
+use Rattle.qc_descr.specs.declared.description.Instruction.{Instruction}
+use Rattle.qc_descr.specs.declared.description.OperandKind.{OperandKind}
+use Rattle.qc_descr.specs.declared.description.OperandKind.TheVariants as kind
+use Rattle.qc_descr.specs.Coding.{memory_bytes, bytes_differ}
+use Rattle.qc_descr.specs.Description.{widths_of, counts_of, context_of_description, kinds_of, size_of}
+
+-- a cell of a space whose cells are words of the machine
+abbrev pub IsWordCell : Description → ℕ × ℕ → Type 0
+IsWordCell d cell =
+    (cell.0 < length d.spaces) × (cell.1 < slice_index (counts_of d) cell.0) × (slice_index (widths_of d) cell.0 ≡ d.facts.word)
+
+-- one of the cells that a compiler may use
+abbrev pub IsAllocatable : Description → ℕ × ℕ → Type 0
+IsAllocatable d cell = (cell.0 ≡ d.allocatable) × (d.first ≤ cell.1) × (cell.1 ≤ d.last)
+
+-- the sizes of the word, the memory and its regions, the frame, link and zero cells, and the cells of a compiler
+pub record HasLayout (d : Description) : Type 0 where
+  pub word : (d.facts.word ≡ 16) ⊎ (d.facts.word ≡ 32)
+  pub memory_fits : d.memory ≤ 2 ^ d.facts.word
+  pub memory_size : d.memory ≤ 67108864
+  pub memory_words : d.memory % (d.facts.word / 8) ≡ 0
+  pub code_least : 16 ≤ d.code_end
+  pub code_most : d.code_end ≤ 1048576
+  pub «data» : d.code_end + 8 ≤ d.data_end
+  pub stack : d.data_end < d.memory
+  pub align : Contains (1 ∷ 2 ∷ 4 ∷ 8 ∷ 16 ∷ []) d.align
+  pub aligned : All (λ i. size_of i % d.align ≡ 0) d.instructions
+  pub slot_least : 4 ≤ d.slot_bits
+  pub slot_most : d.slot_bits ≤ d.facts.word
+  pub frame : IsWordCell d d.frame
+  pub link : IsWordCell d d.link
+  pub other_link : d.link ≢ d.frame
+  pub «zero» : IfSome d.facts.zero (λ z. IsWordCell d z × (z ≢ d.frame) × (z ≢ d.link))
+  pub range : d.first ≤ d.last
+  pub allocatable : IsWordCell d (d.allocatable, d.last)
+  pub same_space : (d.frame.0 ≡ d.allocatable) × (d.link.0 ≡ d.allocatable)
+  pub free_frame : IsAllocatable d d.frame → ⊥
+  pub free_link : IsAllocatable d d.link → ⊥
+  pub free_zero : IfSome d.facts.zero (λ z. IsAllocatable d z → ⊥)
+  pub no_flags : slice_index (map (λ s. if s.flags then 1 else 0) d.spaces) d.allocatable ≡ 0
+  pub flags : All (λ s. s.flags ≡ true → s.width ≡ 1) d.spaces
+
+-- how many things of each sort there may be
+pub record IsWithinLimits (d : Description) : Type 0 where
+  pub instructions : length d.instructions ≤ 256
+  pub operands : All (λ i. length i.operands ≤ 8) d.instructions
+  pub spaces : length d.spaces ≤ 8
+  pub cells : All (λ s. (1 ≤ s.cells) × (s.cells ≤ 64)) d.spaces
+
+-- an operand that is named as a register or an immediate is one, of this space or width
+abbrev pub NamesPlace : List OperandKind → Place → Type 0
+NamesPlace kinds (place.Cell space index) = Unit {0}
+NamesPlace kinds (place.Operand space number) = slice_get kinds number ≡ Some (kind.Register space)
+
+abbrev pub NamesOperands : List OperandKind → Tree → Type 0
+NamesOperands kinds (Number value width) = Unit {0}
+NamesOperands kinds (Unary op arg) = NamesOperands kinds arg
+NamesOperands kinds (Binary op left right) = NamesOperands kinds left × NamesOperands kinds right
+NamesOperands kinds (Register place width) = NamesPlace kinds place
+NamesOperands kinds (Immediate operand width) = slice_get kinds operand ≡ Some (kind.Imm width)
+
+abbrev pub NamesDest : List OperandKind → Dest → Type 0
+NamesDest kinds (dest.Reg place) = NamesPlace kinds place
+NamesDest kinds dest.Out = Unit {0}
+NamesDest kinds dest.Halt = Unit {0}
+
+pub record EffectNames (kinds : List OperandKind) (e : Effect) : Type 0 where
+  pub guard : IfSome e.guard (λ g. NamesOperands kinds (tree_of g))
+  pub value : NamesOperands kinds (tree_of e.value)
+  pub to : NamesDest kinds e.to
+
+-- an operand's number of bits: 2 to that number is its space's number of cells, or it is the immediate's width
+abbrev pub HasSize : Description → OperandKind → ℕ → Type 0
+HasSize d (kind.Register space) size = (space < length d.spaces) × (slice_index (counts_of d) space ≡ 2 ^ size)
+HasSize d (kind.Imm width) size = size ≡ width
+
+abbrev pub HaveSizes : Description → List OperandKind → List ℕ → Type 0
+HaveSizes d [] [] = Unit {0}
+HaveSizes d [] (size ∷ sizes) = ⊥
+HaveSizes d (k ∷ kinds) [] = ⊥
+HaveSizes d (k ∷ kinds) (size ∷ sizes) = HasSize d k size × HaveSizes d kinds sizes
+
+-- the test of each number below n
+unfoldable pub all_below : ℕ → (ℕ → Bool) → Bool
+all_below zero test = true
+all_below (suc n) test = test n && all_below n test
+
+-- the bit is this bit of this operand
+abbrev pub is_piece : ℕ → ℕ → Bit → Bool
+is_piece operand bit (Fixed one) = false
+is_piece operand bit (Piece o b) = nat_eq o operand && nat_eq b bit
+
+-- a fixed bit, or a bit that an operand of these sizes has
+abbrev pub is_within : List ℕ → Bit → Bool
+is_within sizes (Fixed one) = true
+is_within sizes (Piece operand bit) = nat_lt operand (length sizes) && nat_lt bit (slice_index sizes operand)
+
+-- each bit of each operand stands in just one place
+abbrev pub stands_once : List ℕ → List Bit → Bool
+stands_once sizes bits =
+    all_below (length sizes) (λ operand.
+    all_below (slice_index sizes operand) (λ bit. nat_eq (count_by (is_piece operand bit) bits) 1))
+
+-- a size that a token may have
+abbrev pub is_token : ℕ → Bool
+is_token size = nat_eq size 8 || nat_eq size 16 || nat_eq size 32
+
+-- The tokens have fitting sizes and no free bit, and each bit of each operand stands in just one place.
+pub record IsCovered (d : Description) (i : Instruction) : Type 0 where
+  pub some_token : 1 ≤ length i.coding.tokens
+  pub few_tokens : length i.coding.tokens ≤ 4
+  pub tokens : IsTrue (list_all is_token i.coding.tokens)
+  pub no_free_bit : length i.coding.bits ≡ sum i.coding.tokens
+  pub sizes : List ℕ
+  pub sized : HaveSizes d (kinds_of i) sizes
+  pub within : IsTrue (list_all (is_within sizes) i.coding.bits)
+  pub once : IsTrue (stands_once sizes i.coding.bits)
+
+pub record IsValidInstruction (d : Description) (i : Instruction) : Type 0 where
+  pub typed : IsTypedRtl (context_of_description d) i.rtl
+  pub names : All (EffectNames (kinds_of i)) i.rtl.effects
+  pub covered : IsCovered d i
+
+-- any two codings differ in a bit that both fix, within the shorter one's length, by their places in memory
+abbrev pub all_differ : Order → List Coding → Bool
+all_differ order [] = true
+all_differ order (c ∷ cs) =
+    list_all (λ other. bytes_differ (memory_bytes order c) (memory_bytes order other)) cs && all_differ order cs
+
+pub record IsValid (d : Description) : Type 0 where
+  pub layout : HasLayout d
+  pub limits : IsWithinLimits d
+  pub instructions : All (IsValidInstruction d) d.instructions
+  pub differ : IsTrue (all_differ d.facts.order (map (λ i. i.coding) d.instructions))

@@ -1,0 +1,64 @@
+use crate::coding::Coding;
+use crate::text::Text;
+use qc_terms::{Facts, Rtl};
+use qc_words::Width;
+use smallvec::SmallVec;
+use sqlite_items::Items;
+
+/// What an operand is: the number of a register of a space, or an immediate number.
+#[derive(Clone, Copy, Debug, PartialEq, Eq)]
+pub enum OperandKind {
+    Register { space: u32 },
+    Imm { width: Width },
+}
+
+/// A space of cells. The cells of a space of flags have one bit and are not allocated.
+#[derive(Debug, Drop)]
+pub struct Space {
+    pub name: Text,
+    pub cells: u32,
+    pub width: Width,
+    pub flags: bool,
+}
+
+/// An instruction: its operands by name, what it does, and how it is encoded.
+#[derive(Debug, Drop)]
+pub struct Instruction {
+    pub name: Text,
+    pub operands: Items<(Text, OperandKind)>,
+    pub rtl: Rtl,
+    pub coding: Coding,
+}
+
+/// A machine. A pair names a cell by its space's number and its index. `allocatable` is a space, of which a compiler
+/// may use the cells from `first` to `last`.
+///
+/// The code region is the bytes of memory from 0, the data region those from `code_end`, and the stack region those
+/// from `data_end` to the memory's end. `align` is in bytes, `slot_bits` the width of a frame offset in bits.
+#[derive(Debug, Drop)]
+pub struct Description {
+    pub name: Text,
+    pub facts: Facts,
+    pub spaces: Items<Space>,
+    pub align: u64,
+    pub slot_bits: u8,
+    pub frame: (u32, u32),
+    pub link: (u32, u32),
+    pub first: u32,
+    pub last: u32,
+    pub allocatable: u32,
+    pub memory: u64,
+    pub code_end: u64,
+    pub data_end: u64,
+    pub instructions: Items<Instruction>,
+}
+
+/// The operands of an instance, in order. Up to eight stand inline.
+pub type Operands = SmallVec<u64, 8>;
+
+/// An instruction, by its number in the description, with its operands: numbers of registers and immediates.
+#[derive(Debug, Drop)]
+pub struct Instance {
+    pub instruction: u32,
+    pub operands: Operands,
+}

@@ -1,0 +1,12 @@
+use Rattle.std.proofs.Common.{◌≡◌, drop}
+use Rattle.qc_terms.specs.Effects.{after_writes}
+use Rattle.qc_terms.specs.Pending.{writes_of_all}
+use Rattle.qc_terms.specs.State.{IsState, context_of}
+use Rattle.qc_terms.proofs.pending.perform_all.Given as goal
+
+abbrev pub invariant-loop-write : goal.invariant-loop-write
+invariant-loop-write l = record {
+  performed : after_writes (writes_of_all (drop l.write-index l.writes)) l.state ≡ after_writes (writes_of_all l.writes) l.initial.state;
+  kept : IsState l.state;
+  context : context_of l.state ≡ context_of l.initial.state;
+}

@@ -1,0 +1,10 @@
+pub mod Cells
+pub mod Effects
+pub mod Observation
+pub mod Pending
+pub mod State
+pub mod Tree
+pub mod Typing
+pub mod Value
+pub use Rattle.qc_words.specs.Operators
+pub use Rattle.qc_words.specs.Width

@@ -1,0 +1,3 @@
+pub mod ArithmeticLemmas
+pub mod OperatorLemmas
+pub mod WordLemmas
