@@ -1,11 +1,13 @@
 -- The instructions that are put into the code, and their bytes.
-use Rattle.std.proofs.Common.{◌≡◌, ◌<◌, ◌^◌, ℕ, List, [], ◌∷◌, ◌++◌, refl, sym, ap, ◌∙◌, append_assoc, append-nil, length, length-append, arith, ◌+◌, ◌*◌}
+use Rattle.std.proofs.Common.{lit≤, ◌≤◌, ◌≡◌, ◌<◌, ◌^◌, ℕ, List, [], ◌∷◌, ◌++◌, refl, ap, ◌∙◌, append_assoc, append-nil, length, length-append, arith, ◌+◌, ◌*◌}
 use Rattle.std.specs.List.{flat_map}
 use Rattle.std.proofs.lemmas.List.Concat.{flat_map-append}
 use Rattle.qc_descr.specs.declared.description.Description.{Description}
 use Rattle.qc_descr.specs.Encoding.{Encodes}
 use Rattle.qc_core.specs.declared.constants.ConstantProgram.{ConstantProgram}
-use Rattle.qc_core.specs.Code.{Instruct, load_constant, put_cell, halt_with_cell, instance_bytes, instructions_for, output_bytes, return_bytes}
+use Rattle.qc_core.specs.Code.{image_of, load_constant, put_cell, halt_with_cell, instance_bytes, instructions_for, output_bytes, return_bytes}
+use Rattle.qc_core.specs.ConstantProgram.{IsConstantProgram}
+use Rattle.qc_descr.specs.Loading.{FitsMachine}
 use Rattle.qc_core.specs.Instance.{IsInstance}
 use Rattle.qc_core.specs.Tin32.{tin32}
 use Rattle.qc_core.proofs.Codes.{Load, Put, Halt, first_encodes, first_length}
@@ -35,6 +37,10 @@ code_bytes d p =
     ∙ ap (λ xs. xs ++ flat_map (instance_bytes d) (load_constant p.returned ∷ halt_with_cell ∷ [])) (outputs_bytes d p.outputs)
     ∙ ap (λ xs. flat_map (output_bytes d) p.outputs ++ (instance_bytes d (load_constant p.returned) ++ xs)) (append-nil (instance_bytes d halt_with_cell))
 
+room_for_code : 16016 ≤ tin32.code_end
+unfolding tin32
+room_for_code = lit≤ tt
+
 -- a statement has two instructions of 8 bytes
 outputs_length : (words : List ℕ) → length (flat_map (output_bytes tin32) words) ≡ 16 * length words
 outputs_length [] = refl
@@ -44,3 +50,13 @@ outputs_length (word ∷ words) =
 pub code_size : (p : ConstantProgram) → length (flat_map (instance_bytes tin32) (instructions_for p)) ≡ 16 * (length p.outputs + 1)
 code_size p =
     ap length (code_bytes tin32 p) ∙ omega (arith, length-append (flat_map (output_bytes tin32) p.outputs) (return_bytes tin32 p.returned), length-append (instance_bytes tin32 (load_constant p.returned)) (instance_bytes tin32 halt_with_cell), outputs_length p.outputs, first_length (Load p.returned Halt), first_length Halt)
+
+-- the image fits the machine
+pub image_fits : (p : ConstantProgram) → IsConstantProgram p → FitsMachine tin32 (image_of tin32 p)
+image_fits p h = record {
+  word = refl;
+  order = refl;
+  code = omega (arith, code_size p, h.few, room_for_code);
+  room = omega arith;
+  last = λ e. cc e;
+}

@@ -1,5 +1,5 @@
 -- What the parts of a command come to together.
-use Rattle.std.proofs.Common.{◌≡◌, ◌≤◌, ◌⊎◌, ℕ, List, refl, sym, ap, subst, ◌∙◌, arith, inl, inr, ⊎_elim, drop}
+use Rattle.std.proofs.Common.{◌≡◌, ◌≤◌, ◌⊎◌, ℕ, List, refl, sym, ap, subst, ◌∙◌, arith, inl, inr, ⊎_elim}
 use Rattle.std.specs.Prelude.{Option, None, Some, IfSome, [], unwrap_or, cond}
 use Rattle.std.specs.Cmp.{eq_by_cmp_equiv}
 use Rattle.std.specs.Cmp.Lexicographic.{nat_list_cmp_total}
@@ -8,13 +8,15 @@ use Rattle.qc_terms.specs.declared.image.Image.{Image}
 use Rattle.qc_core.specs.declared.answer.Status.{Status}
 use Rattle.qc_core.specs.declared.answer.Status.TheVariants.{Done, Refused, Usage, ReadFault, WriteFault, OutFault, NoMemory}
 use Rattle.qc_core.specs.declared.constants.ConstantProgram.{ConstantProgram}
-use Rattle.qc_core.specs.Answer.{Outside, Finishes, FailsToPut, IsAccepted, IsPut, IsRefused, IsStored, Leaves, StopsReading, Stores, TellsImage, TellsRefusal, compiled_line, name_of, refusal_line}
+use Rattle.qc_core.specs.Answer.{Outside, Finishes, FailsToPut, IsAccepted, IsPut, IsRefused, IsStored, Leaves, NamesInput, StopsReading, Stores, TellsImage, TellsRefusal, compiled_line, name_of, refusal_line}
 use Rattle.qc_core.specs.declared.answer.Fault.{Fault}
 use Rattle.qc_core.specs.Files.{Files, content_of}
-use Rattle.qc_core.specs.Headline.{IsCompiled, IsCompiledTold}
+use Rattle.qc_core.specs.Headline.{IsCompiledTold}
 use Rattle.qc_core.specs.ImageFile.{image_bytes}
 use Rattle.qc_descr.specs.Step.{OneInstance}
 use Rattle.qc_core.proofs.Agreement.{agreement}
+use Rattle.qc_core.proofs.Emitted.{image_fits}
+use Rattle.qc_core.specs.ConstantProgram.{IsConstantProgram}
 use Rattle.qc_core.specs.Code.{image_of}
 use Rattle.qc_core.specs.Tin32.{tin32}
 
@@ -31,36 +33,36 @@ finishes_told p name image old new (ReadFault file) same stored told = absurd to
 finishes_told p name image old new WriteFault same stored told = absurd told
 
 -- the image of the accepted program
-stores : (names : List (List ℕ)) (p : ConstantProgram) (old new : Option Files) → IfSome old (λ files. IsAccepted files names p) → IsStored p (name_of names 5) old new → Stores names (image_of tin32 p) old new
-stores names p None new accepted stored = stored
-stores names p (Some files) new accepted stored = (p, accepted, refl, stored)
+stores : (names : List (List ℕ)) (p : ConstantProgram) (old new : Option Files) → IsConstantProgram p → IfSome old (λ files. IsAccepted files names p) → IsStored p (name_of names 5) old new → Stores names (image_of tin32 p) old new
+stores names p None new small accepted stored = (p, small, refl, stored)
+stores names p (Some files) new small accepted stored = (p, accepted, refl, stored)
 
 some_program : (names : List (List ℕ)) (p : ConstantProgram) (old : Option Files) → IfSome old (λ files. IsAccepted files names p) → IfSome old (λ files. (q : ConstantProgram) × IsAccepted files names q)
 some_program names p None accepted = tt
 some_program names p (Some files) accepted = (p, accepted)
 
 -- a command whose files were read, and what was done with its program after that
-pub leaves_finished : (names : List (List ℕ)) (p : ConstantProgram) (old new : Outside) (mid : ℕ) (status : Status) → IfSome old.files (λ files. IsAccepted files names p) → old.shelf_faults ≤ mid → Finishes p (name_of names 5) (record old { shelf_faults = mid }) new status → Leaves names old new status
-leaves_finished names p old new mid Done accepted later f = (image_of tin32 p, stores names p old.files new.files accepted f.0, f.1)
-leaves_finished names p old new mid WriteFault accepted later f =
+pub leaves_finished : (names : List (List ℕ)) (p : ConstantProgram) (old new : Outside) (mid : ℕ) (status : Status) → IsConstantProgram p → IfSome old.files (λ files. IsAccepted files names p) → old.shelf_faults ≤ mid → Finishes p (name_of names 5) (record old { shelf_faults = mid }) new status → Leaves names old new status
+leaves_finished names p old new mid Done small accepted later f = (image_of tin32 p, stores names p old.files new.files small accepted f.0, f.1)
+leaves_finished names p old new mid WriteFault small accepted later f =
     (omega (arith, later, f.0), some_program names p old.files accepted, f.1, f.2)
-leaves_finished names p old new mid OutFault accepted later f = (image_of tin32 p, stores names p old.files new.files accepted f.0, f.1)
-leaves_finished names p old new mid NoMemory accepted later f =
-    (⊎_elim (λ same. inl same) (λ stored. inr (image_of tin32 p, stores names p old.files new.files accepted stored)) f.0, f.1)
-leaves_finished names p old new mid (Refused fault) accepted later f = absurd f
-leaves_finished names p old new mid (Usage word) accepted later f = absurd f
-leaves_finished names p old new mid (ReadFault file) accepted later f = absurd f
+leaves_finished names p old new mid OutFault small accepted later f = (image_of tin32 p, stores names p old.files new.files small accepted f.0, f.1)
+leaves_finished names p old new mid NoMemory small accepted later f =
+    (⊎_elim (λ same. inl same) (λ stored. inr (image_of tin32 p, stores names p old.files new.files small accepted stored)) f.0, f.1)
+leaves_finished names p old new mid (Refused fault) small accepted later f = absurd f
+leaves_finished names p old new mid (Usage word) small accepted later f = absurd f
+leaves_finished names p old new mid (ReadFault file) small accepted later f = absurd f
 
 -- a command that is refused, and whose refusal was told
-pub leaves_refused : (names : List (List ℕ)) (fault : Fault) (old new : Outside) (status : Status) → IfSome old.files (λ files. IsRefused files names fault) → new.files ≡ old.files → TellsRefusal fault old.written new.written old.out_faults new.out_faults status → Leaves names old new status
-leaves_refused names fault old new Done refused same told = absurd told
-leaves_refused names fault old new (Refused f) refused same told =
-    (subst (λ x. IfSome old.files (λ files. IsRefused files names x)) (sym told.0) refused, same, subst (λ x. IsPut (refusal_line x) old.written new.written ⊎ FailsToPut (refusal_line x) old.written new.written old.out_faults new.out_faults) (sym told.0) told.1)
-leaves_refused names fault old new (Usage word) refused same told = absurd told
-leaves_refused names fault old new (ReadFault file) refused same told = absurd told
-leaves_refused names fault old new WriteFault refused same told = absurd told
-leaves_refused names fault old new OutFault refused same told = absurd told
-leaves_refused names fault old new NoMemory refused same told = (inl same, told)
+pub leaves_refused : (names : List (List ℕ)) (fault : Fault) (old new : Outside) (status : Status) → NamesInput fault → IfSome old.files (λ files. IsRefused files names fault) → new.files ≡ old.files → TellsRefusal fault old.written new.written old.out_faults new.out_faults status → Leaves names old new status
+leaves_refused names fault old new Done named refused same told = absurd told
+leaves_refused names fault old new (Refused f) named refused same told =
+    (subst NamesInput (sym told.0) named, subst (λ x. IfSome old.files (λ files. IsRefused files names x)) (sym told.0) refused, same, subst (λ x. IsPut (refusal_line x) old.written new.written ⊎ FailsToPut (refusal_line x) old.written new.written old.out_faults new.out_faults) (sym told.0) told.1)
+leaves_refused names fault old new (Usage word) named refused same told = absurd told
+leaves_refused names fault old new (ReadFault file) named refused same told = absurd told
+leaves_refused names fault old new WriteFault named refused same told = absurd told
+leaves_refused names fault old new OutFault named refused same told = absurd told
+leaves_refused names fault old new NoMemory named refused same told = (inl same, told)
 
 -- a command whose reading stops otherwise
 pub leaves_stopped : (names : List (List ℕ)) (old new : Outside) (status : Status) → ((fault : Fault) → status ≡ Refused fault → ⊥) → new.files ≡ old.files → new.written ≡ old.written → StopsReading names old.files old.shelf_faults new.shelf_faults status → Leaves names old new status
@@ -86,6 +88,7 @@ compiled one names image (Some before) new stored =
       program = stored.0;
       accepted = stored.1;
       image = image;
+      fits = rw stored.2 (image_fits stored.0 stored.1.program.program);
       file = content_of_bound before (name_of names 5) (image_bytes image);
       agrees = rw stored.2 (agreement one stored.0 stored.1.program.program);
     })

@@ -4,6 +4,7 @@ pub mod DecodedOperands
 pub mod Emitted
 pub mod EncodedBytes
 pub mod Endings
+pub mod Exclusions
 pub mod Fronts
 pub mod Instances
 pub mod Loaded

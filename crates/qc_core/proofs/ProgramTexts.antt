@@ -1,13 +1,12 @@
 -- Texts of programs of constants.
-use Rattle.std.proofs.Common.{◌≡◌, ◌<◌, ◌≤◌, ◌+◌, ◌^◌, ◌⊎◌, ℕ, zero, suc, List, [], ◌∷◌, ◌++◌, length, get_or, refl, sym, ap, ap₂, ◌∙◌, subst, arith, append_assoc, append-nil, length-append, inl, inr}
+use Rattle.std.proofs.Common.{◌≡◌, ◌<◌, ◌^◌, ℕ, List, [], ◌∷◌, ◌++◌, length, get_or, refl, sym, ap, ap₂, ◌∙◌, subst, arith, append_assoc, append-nil, length-append}
 use Rattle.std.specs.Prelude.{All, codes}
 use Rattle.std.specs.List.{AllByRecursion, flat_map}
-use Rattle.std.specs.Fmt.{decimal}
 use Rattle.std.proofs.lemmas.List.{append_cancel_left}
 use Rattle.std.proofs.lemmas.List.Concat.{flat_map-append}
 use Rattle.std.proofs.lemmas.List.Elements.{All-append, All-from_recursion, recursion_from_All}
 use Rattle.qc_core.specs.declared.constants.ConstantProgram.{ConstantProgram}
-use Rattle.qc_core.specs.ConstantProgram.{output_text, return_text, program_text, Spells, IsEnd, IsReturn, HasManyOutputs, HasNoOutput, StartsWithOutputs}
+use Rattle.qc_core.specs.ConstantProgram.{output_text, return_text, program_text, Spells, IsReturn, HasManyOutputs, HasNoOutput, StartsWithOutputs}
 use Rattle.qc_core.proofs.Fronts.{one_between}
 
 -- one more output than a program has

@@ -1,7 +1,7 @@
 -- tin32 is a valid description.
-use Rattle.std.proofs.Common.{◌≡◌, ◌≢◌, ◌<◌, ◌≤◌, ℕ, List, [], ◌∷◌, refl, ap, inl, inr, arith, lit<, lit≤, rules}
+use Rattle.std.proofs.Common.{◌≡◌, ◌≤◌, [], ◌∷◌, refl, ap, inr, arith, lit<, lit≤}
 use Rattle.std.proofs.lemmas.List.Elements.{All-from_recursion}
-use Rattle.std.specs.Prelude.{All, Contains, length, true, ◌%◌}
+use Rattle.std.specs.Prelude.{All, length, true, ◌%◌}
 use Rattle.qc_descr.specs.declared.description.Space.{Space}
 use Rattle.qc_descr.specs.declared.description.Instruction.{Instruction}
 use Rattle.qc_descr.specs.Valid.{HasLayout, IsWithinLimits, IsValidInstruction, IsValid, EffectNames, all_below}

@@ -1,5 +1,5 @@
 -- Lists of bits that are made one after another.
-use Rattle.std.proofs.Common.{◌≡◌, ◌∙◌, ℕ, ◌+◌, List, [], ◌∷◌, ◌++◌, refl, ap, sym, add-one, append_assoc, append-nil}
+use Rattle.std.proofs.Common.{◌≡◌, ◌∙◌, ℕ, ◌+◌, List, [], ◌∷◌, ◌++◌, ap, sym, add-one, append_assoc, append-nil}
 use Rattle.qc_descr.specs.declared.coding.Bit.{Bit}
 use Rattle.qc_core.specs.Tin32.{each_below}
 

@@ -1,10 +1,10 @@
 -- Which word is wrong, from which file word is.
-use Rattle.std.proofs.Common.{◌≡◌, ◌≢◌, ◌<◌, ◌≤◌, ◌+◌, ◌-◌, ◌⊎◌, ◌&&◌, ℕ, zero, suc, List, [], ◌∷◌, ◌++◌, length, take, replicate, true, false, refl, sym, ap, ◌∙◌, arith, add-one, length-append, ⊎_elim}
+use Rattle.std.proofs.Common.{◌≡◌, ◌≢◌, ◌<◌, ◌≤◌, ◌+◌, ◌-◌, ℕ, zero, suc, List, [], ◌∷◌, ◌++◌, length, take, replicate, true, false, refl, sym, ap, ◌∙◌, arith, add-one, length-append, ⊎_elim}
 use Rattle.std.specs.Prelude.{codes}
 use Rattle.std.specs.List.{list_all, slice_index_or}
 use Rattle.std.proofs.lemmas.List.{length-replicate, length-take, get_or_append_left, get_or-take}
 use Rattle.std.proofs.lemmas.List.Folds.{list_all-append, list_all_at}
-use Rattle.qc_core.specs.Command.{is_file_word, IsCommand, BeginsCommand, IsUsage, IsWrongFile}
+use Rattle.qc_core.specs.Command.{is_file_word, BeginsCommand, IsUsage, IsWrongFile}
 
 -- file words that are right
 right_files : (n : ℕ) → list_all is_file_word (replicate n (120 ∷ [])) ≡ true

@@ -1,5 +1,5 @@
 -- When an image, run on a machine, shows what a program shows.
-use Rattle.std.specs.Prelude.{ℕ, ◌≡◌, ◌<◌, ◌+◌, ◌*◌, ◌^◌, List, length, All}
+use Rattle.std.specs.Prelude.{ℕ, ◌<◌, ◌+◌, ◌*◌, ◌^◌, List, length, All}
 use Rattle.qc_terms.specs.declared.image.Image.{Image}
 use Rattle.qc_terms.specs.Observation.{Below}
 use Rattle.qc_descr.specs.declared.description.Description.{Description}

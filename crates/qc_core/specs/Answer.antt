@@ -1,5 +1,5 @@
 -- The answers of the program: which one the words and the files ask for, and what each leaves.
-use Rattle.std.specs.Prelude.{ℕ, ◌≡◌, ◌<◌, ◌≤◌, ◌-◌, ◌⊎◌, List, [], ◌∷◌, ◌++◌, length, codes, Option, None, Some, IfSome, MatchOption}
+use Rattle.std.specs.Prelude.{ℕ, ◌≡◌, ◌<◌, ◌≤◌, ◌-◌, ◌⊎◌, List, [], ◌∷◌, ◌++◌, length, codes, Option, None, Some, IfSome}
 use Rattle.std.specs.Option.{option_map}
 use Rattle.std.specs.List.{slice_index_or}
 use Rattle.std.specs.Fmt.{decimal}
@@ -12,7 +12,7 @@ use Rattle.qc_core.specs.declared.answer.Status.{Status}
 use Rattle.qc_core.specs.declared.answer.Status.TheVariants.{Done, Refused, Usage, ReadFault, WriteFault, OutFault, NoMemory}
 use Rattle.qc_core.specs.Code.{image_of}
 use Rattle.qc_core.specs.Command.{IsCommand, IsUsage}
-use Rattle.qc_core.specs.ConstantProgram.{Spells}
+use Rattle.qc_core.specs.ConstantProgram.{IsConstantProgram, Spells}
 use Rattle.qc_core.specs.Faults.{Rose}
 use Rattle.qc_core.specs.Files.{Files, content_of, file_limit, OthersStayTold}
 use Rattle.qc_core.specs.ImageFile.{image_bytes}
@@ -59,6 +59,11 @@ IsRefused files names (NotYet file) =
     (1 ≤ file) × (file ≤ 4) × GoodBefore files names file × (length (input_of files names file) ≤ file_limit)
     × (HasForm file (input_of files names file) → ⊥)
 
+-- the fault names one of the files that are read
+abbrev pub NamesInput : Fault → Type 0
+NamesInput (TooLong file) = (1 ≤ file) × (file ≤ 4)
+NamesInput (NotYet file) = (1 ≤ file) × (file ≤ 4)
+
 -- no file is refused, and the program is this one
 pub record IsAccepted (files : Files) (names : List (List ℕ)) (p : ConstantProgram) : Type 0 where
   pub good : GoodBefore files names 4
@@ -81,7 +86,8 @@ StopsAt file name told before now OutFault = ⊥
 
 -- how the reading of a command's four files stops
 abbrev pub StopsReading : List (List ℕ) → Option Files → ℕ → ℕ → Status → Type 0
-StopsReading names told before now (Refused fault) = IfSome told (λ files. IsRefused files names fault)
+StopsReading names told before now (Refused fault) =
+    NamesInput fault × IfSome told (λ files. IsRefused files names fault)
 StopsReading names told before now (ReadFault file) =
     Rose before now × (1 ≤ file) × (file ≤ 4) × IfSome told (λ files. GoodBefore files names file)
 StopsReading names told before now NoMemory = Unit {0}
@@ -117,9 +123,11 @@ pub record FailsToPut (piece : List ℕ) (old new : Option (List ℕ)) (before n
   pub rose : Rose before now
   pub front : (part more : List ℕ) × (piece ≡ part ++ more) × IsPut part old new
 
--- The image of the accepted program stands in the file of number 5, and all else is as before.
+-- The image of the accepted program stands in the file of number 5, and all else is as before. Where the files aren't
+-- told, the image is that of some program.
 abbrev pub Stores : List (List ℕ) → Image → Option Files → Option Files → Type 0
-Stores names image None new = new ≡ None
+Stores names image None new =
+    (p : ConstantProgram) × IsConstantProgram p × (image ≡ image_of tin32 p) × (new ≡ None)
 Stores names image (Some files) new =
     (p : ConstantProgram) × IsAccepted files names p × (image ≡ image_of tin32 p)
     × (new ≡ Some (insert files (name_of names 5) (image_bytes image)))
@@ -169,7 +177,7 @@ abbrev pub Leaves : List (List ℕ) → Outside → Outside → Status → Type 
 Leaves names old new Done =
     (image : Image) × Stores names image old.files new.files × IsPut (compiled_line image) old.written new.written
 Leaves names old new (Refused fault) =
-    IfSome old.files (λ files. IsRefused files names fault) × (new.files ≡ old.files)
+    NamesInput fault × IfSome old.files (λ files. IsRefused files names fault) × (new.files ≡ old.files)
     × (IsPut (refusal_line fault) old.written new.written
     ⊎ FailsToPut (refusal_line fault) old.written new.written old.out_faults new.out_faults)
 Leaves names old new (Usage word) = ⊥

@@ -1,5 +1,5 @@
 -- The code of a program of constants.
-use Rattle.std.specs.Prelude.{ℕ, ◌≡◌, List, [], ◌∷◌, ◌++◌, length, slice_get, Option, None, Some}
+use Rattle.std.specs.Prelude.{ℕ, ◌≡◌, List, [], ◌∷◌, ◌++◌, slice_get, Option, None, Some}
 use Rattle.std.specs.List.{flat_map}
 use Rattle.qc_terms.specs.declared.image.Image.{Image}
 use Rattle.qc_descr.specs.declared.description.Description.{Description}

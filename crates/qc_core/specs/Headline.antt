@@ -2,6 +2,7 @@
 use Rattle.std.specs.Prelude.{ℕ, ◌≡◌, List, Option, IfSome}
 use Rattle.qc_terms.specs.declared.image.Image.{Image}
 use Rattle.qc_core.specs.declared.constants.ConstantProgram.{ConstantProgram}
+use Rattle.qc_descr.specs.Loading.{FitsMachine}
 use Rattle.qc_core.specs.Agreement.{Agrees}
 use Rattle.qc_core.specs.Answer.{IsAccepted, name_of}
 use Rattle.qc_core.specs.Files.{Files, content_of}
@@ -9,11 +10,12 @@ use Rattle.qc_core.specs.ImageFile.{image_bytes}
 use Rattle.qc_core.specs.Tin32.{tin32}
 
 -- The files of numbers 1 to 4, as they were before, stand for tin32 and spell a program. The file of number 5, as it is
--- after, is an image that agrees with the program on every input.
+-- after, is an image that fits tin32 and agrees with the program on every input.
 pub record IsCompiled (names : List (List ℕ)) (before after : Files) : Type 0 where
   pub program : ConstantProgram
   pub accepted : IsAccepted before names program
   pub image : Image
+  pub fits : FitsMachine tin32 image
   pub file : content_of after (name_of names 5) ≡ image_bytes image
   pub agrees : Agrees tin32 program image
 

@@ -1,10 +1,9 @@
 -- The machine tin32, with its instructions const, op_out and op_halt.
-use Rattle.std.specs.Prelude.{ℕ, zero, suc, List, [], ◌∷◌, ◌++◌, nat_eq, false, Option, None, Some, codes}
+use Rattle.std.specs.Prelude.{ℕ, zero, suc, List, [], ◌∷◌, ◌++◌, nat_eq, false, None, codes}
 use Rattle.std.specs.Int.{bit_at}
 use Rattle.qc_terms.specs.declared.state.Order.TheVariants.{Little}
 use Rattle.qc_terms.specs.declared.term.Dest.{Dest}
 use Rattle.qc_terms.specs.declared.term.Dest.TheVariants as dest
-use Rattle.qc_terms.specs.declared.term.Effect.{Effect}
 use Rattle.qc_terms.specs.declared.term.Place.TheVariants.{Operand}
 use Rattle.qc_terms.specs.declared.term.Term.{Term}
 use Rattle.qc_terms.specs.declared.term.Term.TheVariants as term

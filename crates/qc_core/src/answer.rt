@@ -14,7 +14,8 @@ pub enum Status {
     Done,
     /// A file is refused, and no file was written.
     Refused { fault: Fault },
-    /// The words are no command; `word` is the first wrong one, or the number of words where more are wanted.
+    /// The words are no command; `word` is the first wrong one, counted from 0, or the number of words where more are
+    /// wanted.
     Usage { word: usize },
     /// A file could not be read. It is named by its place among the file words, from 1.
     ReadFault { file: usize },

@@ -6,6 +6,7 @@ ghost use Rattle.qc_core.specs.Code.{image_of, instance_bytes, load_constant, ou
 ghost use Rattle.qc_core.specs.ConstantProgram.{IsConstantProgram};
 ghost use Rattle.qc_core.specs.Instance.{IsInstance};
 ghost use Rattle.qc_core.specs.Tin32.{tin32};
+ghost use Rattle.qc_descr.specs.Loading.{FitsMachine};
 ghost use Rattle.qc_descr.specs.Valid.{IsValid};
 
 use crate::constants::ConstantProgram;
@@ -116,6 +117,7 @@ pub fn compile(
     requires program { IsConstantProgram program.now }
     ensures image { IfOk result (λ image. image ≡ image_of descr.now program.now) }
     ensures size { IfOk result (λ image. length image.code ≡ 16 * (length program.now.outputs + 1)) }
+    ensures fits { IfOk result (FitsMachine descr.now) }
     ensures agrees { IfOk result (Agrees descr.now program.now) }
 {
     one_instance();

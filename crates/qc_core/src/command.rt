@@ -76,6 +76,8 @@ fn finish<S: Shelf, O: Out>(
     out: &mut O,
 ) -> Status
     requires { IsConstantProgram program.now }
+    ensures shelf_later { S.faults shelf.old ≤ S.faults shelf.new }
+    ensures out_later { O.faults out.old ≤ O.faults out.new }
     ensures finished { Finishes program.now (string_bytes name.now)
         (record { files = S.files shelf.old; shelf_faults = S.faults shelf.old; written = O.written out.old; out_faults = O.faults out.old })
         (record { files = S.files shelf.new; shelf_faults = S.faults shelf.new; written = O.written out.new; out_faults = O.faults out.new })
@@ -100,6 +102,8 @@ fn compile_command<S: Shelf, O: Out>(
     out: &mut O,
 ) -> Status
     requires { IsCommand (texts_of words.now.items) (drop 1 (texts_of words.now.items)) }
+    ensures shelf_later { S.faults shelf.old ≤ S.faults shelf.new }
+    ensures out_later { O.faults out.old ≤ O.faults out.new }
     ensures leaves { Leaves (drop 1 (texts_of words.now.items))
         (record { files = S.files shelf.old; shelf_faults = S.faults shelf.old; written = O.written out.old; out_faults = O.faults out.old })
         (record { files = S.files shelf.new; shelf_faults = S.faults shelf.new; written = O.written out.new; out_faults = O.faults out.new })
@@ -121,6 +125,8 @@ pub fn quick<S: Shelf, O: Out>(
     shelf: &mut S,
     out: &mut O,
 ) -> Status
+    ensures shelf_later { S.faults shelf.old ≤ S.faults shelf.new }
+    ensures out_later { O.faults out.old ≤ O.faults out.new }
     ensures answer { IsAnswer (texts_of words.now.items)
         (record { files = S.files shelf.old; shelf_faults = S.faults shelf.old; written = O.written out.old; out_faults = O.faults out.old })
         (record { files = S.files shelf.new; shelf_faults = S.faults shelf.new; written = O.written out.new; out_faults = O.faults out.new })
@@ -134,3 +140,6 @@ pub fn quick<S: Shelf, O: Out>(
         None => compile_command(alloc, words, shelf, out),
     }
 }
+
+#[cfg(test)]
+mod tests;

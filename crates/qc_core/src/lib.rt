@@ -11,6 +11,7 @@ mod decoding;
 mod encoding;
 mod image_file;
 mod inputs;
+mod laws;
 mod lines;
 mod machine;
 mod machines;
@@ -28,8 +29,12 @@ pub use constants::ConstantProgram;
 pub use decoding::decode;
 pub use encoding::encode;
 pub use image_file::write_image;
+pub use laws::{
+    accepted_is_not_refused, faultless_answers, one_accepted_program, one_program, one_refusal,
+    one_usage, usage_is_no_command,
+};
 pub use machine::Machine;
 pub use machines::tin32;
 pub use memory_files::MemShelf;
 pub use memory_out::MemOut;
-pub use outside::{Out, ReadEnd, Shelf, StoreEnd};
+pub use outside::{Out, ReadEnd, Shelf, StoreEnd, is_too_long};

@@ -141,3 +141,6 @@ impl Machine {
         )
     }
 }
+
+#[cfg(test)]
+mod tests;

@@ -5,17 +5,8 @@ ghost use Rattle.qc_core.specs.Files.{file_limit};
 ghost use Rattle.qc_core.specs.MemoryFiles.{files_from, files_of, faults_of, NoneBefore, IsFirst};
 
 use crate::calls::Calls;
-use crate::outside::{ReadEnd, Shelf, StoreEnd};
+use crate::outside::{ReadEnd, Shelf, StoreEnd, is_too_long};
 use std::alloc::{AllocError, Global};
-
-const FILE_LIMIT: usize = 4_194_304;
-
-#[tactic(auto, unfolding(crate::specs::Files::file_limit))]
-fn is_too_long(len: usize) -> bool
-    ensures { IsTrue result ↔ (file_limit < len) }
-{
-    len > FILE_LIMIT
-}
 
 fn copied(alloc: Global, bytes: &[u8]) -> Result<Vec<u8>, AllocError>
     ensures { IfOk result (λ copy. copy.items ≡ bytes.now) }

@@ -1,10 +1,21 @@
-ghost use Rattle.std.specs.Prelude.{◌≡◌, ◌≤◌, ◌<◌, ◌++◌, ℕ, List, Option, Some, is_some, length, string_bytes, IfOk, IfSome, OnOk, IsErrOf};
+ghost use Rattle.std.specs.Prelude.{◌≡◌, ◌≤◌, ◌<◌, ◌++◌, ℕ, List, Option, Some, is_some, length, string_bytes, IfOk, IfSome, IsTrue, OnOk, IsErrOf, ◌↔◌};
 ghost use Rattle.std.specs.Option.{option_map};
 ghost use Rattle.std.specs.FinMap.{insert};
 ghost use Rattle.qc_core.specs.Faults.{Rose};
 ghost use Rattle.qc_core.specs.Files.{Files, content_of, file_limit, OthersStayTold};
 
 use std::alloc::Global;
+
+/// The most bytes that a file may have.
+const FILE_LIMIT: usize = 4_194_304;
+
+/// Whether so many bytes are more than a file may have.
+#[tactic(auto, unfolding(crate::specs::Files::file_limit))]
+pub fn is_too_long(len: usize) -> bool
+    ensures { IsTrue result ↔ (file_limit < len) }
+{
+    len > FILE_LIMIT
+}
 
 /// Why a file was not read.
 #[derive(Clone, Copy, Debug, PartialEq, Eq)]
@@ -25,7 +36,7 @@ pub enum StoreEnd {
 /// Files by name.
 ///
 /// A shelf may tell its files, which are then a map from names to contents, and counts its faults. The count never
-/// falls, and stands still at its last value.
+/// falls, and at its last value, that of 64 bits, it may stand still.
 pub trait Shelf {
     /// The files, where they are told.
     ghost files: { Self → Option Files };

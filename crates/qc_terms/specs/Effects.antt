@@ -1,5 +1,5 @@
 -- What a register transfer list does to a state. All guards and values are read in the old state. Then all effects
--- whose guard is true take place at once.
+-- whose guard is true are written. Of two effects on one cell the later in the list stays.
 use Rattle.std.specs.Prelude.{ℕ, List, [], ◌∷◌, ◌++◌, Option, None, Some, option_and_then, if◌then◌else◌, nat_eq}
 use Rattle.std.specs.Option.{option_map}
 use Rattle.qc_terms.specs.declared.state.Event.{Event}
@@ -73,7 +73,7 @@ pub record Outcome : Type 0 where
 abbrev pub trapped : ℕ → State → Outcome
 trapped code s = record { state = record s { ending = Some (Trapped code) }; event = Trapped code }
 
--- the outcome of the writes that were read, with the program counter at the address after unless a write sets it
+-- the outcome of the writes that were read, with the program counter at the address after
 abbrev pub outcome_of_writes : Option (List Write) → ℕ → State → Outcome
 outcome_of_writes None after s = trapped 1 s
 outcome_of_writes (Some ws) after s =

@@ -22,7 +22,8 @@ index_of (Operand space number) operands = slice_index operands number
 abbrev pub read_of : State → ℕ → ℕ → ℕ
 read_of s space index = if is_zero_cell s.facts.zero space index then 0 else cell_of s.cells space index
 
--- The value, or none where it has none. The operands of an operator have the width of the first one.
+-- The value, or none where it has none, which no term comes to so far. The operands of an operator have the width of
+-- the first one.
 abbrev pub value_of : Tree → List ℕ → ℕ → State → Option ℕ
 value_of (Number value width) operands after s = Some value
 value_of (Unary op arg) operands after s =

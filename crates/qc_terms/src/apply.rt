@@ -7,8 +7,8 @@ use crate::pending::{event, pending_writes, perform_all};
 use crate::state::{Event, State};
 use crate::term::Rtl;
 
-/// Performs the effects of a register transfer list on a running state, with the program counter at the address after
-/// the instruction unless an effect sets it, and says what that shows.
+/// Performs the effects of a register transfer list on a running state, sets the program counter to the address after the
+/// instruction, and says what that shows.
 pub fn apply_rtl(rtl: &Rtl, operands: &[u64], after: u64, state: &mut State) -> Event
     requires running { state.old.ending ≡ None }
     requires state { IsState state.old }

@@ -58,7 +58,7 @@ pub enum Dest {
     Halt,
 }
 
-/// One assignment of a register transfer list. It takes place where it has no guard, or one whose value is 1.
+/// One assignment of a register transfer list. It takes place where it has no guard, or one whose value isn't 0.
 #[derive(Debug, Drop)]
 pub struct Effect {
     pub guard: Option<Term>,

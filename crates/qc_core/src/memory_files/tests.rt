@@ -89,7 +89,7 @@ fn puts_nothing_at_a_chosen_call(rt: HostRuntime) -> Outcome {
 fn refuses_a_file_past_the_limit(rt: HostRuntime) -> Outcome {
     let alloc = rt.alloc();
     let name = text(alloc, "a")?;
-    for (size, fits) in [(FILE_LIMIT, true), (FILE_LIMIT + 1, false)] {
+    for (size, fits) in [(4_194_304, true), (4_194_305, false)] {
         let content = vec![in alloc; 0u8; size]?;
         let mut files = shelf(alloc, &["a"], &[content.as_slice()], &[])?;
         let read = files.read(alloc, &name);

@@ -1,10 +1,11 @@
 use Rattle.std.proofs.Common.{◌≡◌, refl, sym, ap, ◌∙◌, subst, length}
 use Rattle.std.specs.List.{flat_map}
-use Rattle.std.specs.Prelude.{◌++◌, []}
+use Rattle.std.specs.Prelude.{◌++◌}
 use Rattle.qc_terms.specs.declared.image.Image.{Image}
+use Rattle.qc_descr.specs.Loading.{FitsMachine}
 use Rattle.qc_core.specs.Agreement.{Agrees}
 use Rattle.qc_core.specs.Code.{instance_bytes, instructions_for, output_bytes, return_bytes}
-use Rattle.qc_core.proofs.Emitted.{code_bytes, code_size}
+use Rattle.qc_core.proofs.Emitted.{code_bytes, code_size, image_fits}
 use Rattle.qc_core.proofs.Agreement.{agreement}
 use Rattle.qc_core.proofs.code.compile.Goals as goal
 
@@ -26,3 +27,7 @@ returns-clause-agrees c =
 pub returns-clause-size : goal.returns-clause-size
 returns-clause-size c =
     ap (λ (image : Image). length image.code) (returns-clause-image c) ∙ rw c.requires.machine (code_size c.args.program.now)
+
+pub returns-clause-fits : goal.returns-clause-fits
+returns-clause-fits c =
+    subst (FitsMachine c.args.descr.now) (sym (returns-clause-image c)) (rw c.requires.machine (image_fits c.args.program.now c.requires.program))

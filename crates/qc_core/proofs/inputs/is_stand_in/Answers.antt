@@ -1,4 +1,4 @@
-use Rattle.std.proofs.Common.{◌≡◌, sym, ap, ◌∙◌, nat_eq}
+use Rattle.std.proofs.Common.{sym, ap, ◌∙◌, nat_eq}
 use lib.Pointwise.{pointwise}
 use Rattle.qc_core.proofs.SameBytes.{same_bytes, alike_bytes}
 use Rattle.qc_core.proofs.inputs.is_stand_in.Goals as goal

@@ -1,4 +1,4 @@
-use Rattle.std.proofs.Common.{sym, ap, ◌∙◌}
+use Rattle.std.proofs.Common.{sym, ap}
 use Rattle.qc_core.specs.Numeral.{is_canonical}
 use Rattle.qc_core.proofs.Numerals.{canonical_decimal, read_some, read_none}
 use Rattle.qc_core.proofs.numeral.whole_number.Goals as goal

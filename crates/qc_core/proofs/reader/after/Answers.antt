@@ -1,4 +1,4 @@
-use Rattle.std.proofs.Common.{◌≡◌, ◌++◌, List, ℕ, false, true, drop, length, take, subst, ap, sym, ◌∙◌, Bor, nat_eq, ◌+◌}
+use Rattle.std.proofs.Common.{◌≡◌, ◌++◌, List, ℕ, false, true, drop, length, take, ap, sym, ◌∙◌, Bor, nat_eq, ◌+◌}
 use Rattle.std.specs.Prelude.{Option, None, Some, IfSome, IsNone, MatchOption}
 use lib.Pointwise.{pointwise}
 use Rattle.qc_core.proofs.Fronts.{strips, begins}

@@ -1,0 +1,116 @@
+-- Answers that exclude each other.
+use Rattle.std.proofs.Common.{◌≡◌, ◌<◌, ◌≤◌, ◌⊎◌, ℕ, suc, List, [], ◌++◌, length, take, drop, refl, sym, ap, subst, ◌∙◌, arith, append_assoc, append-nil, inl, inr, ⊎_elim}
+use Rattle.std.specs.Prelude.{Some, IfSome}
+use Rattle.std.proofs.Math.Nat.{eq-or-lt_of_le}
+use Rattle.std.proofs.lemmas.List.{take-take, take-append-drop}
+use Rattle.qc_core.specs.declared.answer.Fault.{Fault}
+use Rattle.qc_core.specs.declared.answer.Fault.TheVariants.{TooLong, NotYet}
+use Rattle.qc_core.specs.declared.answer.Status.{Status}
+use Rattle.qc_core.specs.declared.answer.Status.TheVariants.{Done, Refused, Usage, ReadFault, WriteFault, OutFault, NoMemory}
+use Rattle.qc_core.specs.declared.constants.ConstantProgram.{ConstantProgram}
+use Rattle.qc_core.specs.Answer.{Outside, GoodBefore, IsAccepted, IsGood, IsRefused, Leaves, input_of}
+use Rattle.qc_core.specs.Command.{BeginsCommand, IsCommand, IsUsage}
+use Rattle.qc_core.specs.Faults.{Rose}
+use Rattle.qc_core.specs.Files.{Files}
+use Rattle.qc_core.proofs.ProgramTexts.{one_program}
+
+-- each file of an accepted program is good
+all_good : (files : Files) (names : List (List ℕ)) (p : ConstantProgram) (file : ℕ) → IsAccepted files names p → 1 ≤ file → file ≤ 4 → IsGood files names file
+all_good files names p file accepted from to =
+    ⊎_elim
+    (λ last. subst (λ n. IsGood files names n) (sym last) (accepted.short, inr (inr (inr (refl, (p, accepted.program))))))
+    (λ less. accepted.good file from less)
+    (eq-or-lt_of_le to)
+
+-- the file of a fault
+abbrev faulty_file : Fault → ℕ
+faulty_file (TooLong file) = file
+faulty_file (NotYet file) = file
+
+-- the file of a fault isn't good, and each file before it is
+is_bad : (files : Files) (names : List (List ℕ)) (fault : Fault) → IsRefused files names fault → IsGood files names (faulty_file fault) → ⊥
+is_bad files names (TooLong file) refused good = omega (arith, good.0, refused.3)
+is_bad files names (NotYet file) refused good = refused.4 good.1
+
+is_first : (files : Files) (names : List (List ℕ)) (fault : Fault) → IsRefused files names fault → (1 ≤ faulty_file fault) × (faulty_file fault ≤ 4) × GoodBefore files names (faulty_file fault)
+is_first files names (TooLong file) refused = (refused.0, refused.1, refused.2)
+is_first files names (NotYet file) refused = (refused.0, refused.1, refused.2)
+
+-- no file of an accepted program is bad
+pub accepted_is_not_refused : (files : Files) (names : List (List ℕ)) (p : ConstantProgram) (fault : Fault) → IsAccepted files names p → IsRefused files names fault → ⊥
+accepted_is_not_refused files names p fault accepted refused =
+    let first = is_first files names fault refused in
+    is_bad files names fault refused (all_good files names p (faulty_file fault) accepted first.0 first.1)
+
+-- with no count that rose there is no fault, and what is accepted is not refused
+pub faultless_answers : (names : List (List ℕ)) (files : Files) (p : ConstantProgram) (old new : Outside) (status : Status) → old.files ≡ Some files → IsAccepted files names p → (Rose old.shelf_faults new.shelf_faults → ⊥) → (Rose old.out_faults new.out_faults → ⊥) → Leaves names old new status → (status ≡ Done) ⊎ (status ≡ NoMemory)
+faultless_answers names files p old new Done told accepted shelf out leaves = inl refl
+faultless_answers names files p old new NoMemory told accepted shelf out leaves = inr refl
+faultless_answers names files p old new (Refused fault) told accepted shelf out leaves =
+    absurd (accepted_is_not_refused files names p fault accepted (subst (λ o. IfSome o (λ fs. IsRefused fs names fault)) told leaves.1))
+faultless_answers names files p old new (Usage word) told accepted shelf out leaves = absurd leaves
+faultless_answers names files p old new (ReadFault file) told accepted shelf out leaves = absurd (shelf leaves.0)
+faultless_answers names files p old new WriteFault told accepted shelf out leaves = absurd (shelf leaves.0)
+faultless_answers names files p old new OutFault told accepted shelf out leaves = absurd (out leaves.2.rose)
+
+-- the fourth file spells one program
+pub one_accepted_program : (files : Files) (names : List (List ℕ)) (p q : ConstantProgram) → IsAccepted files names p → IsAccepted files names q → p ≡ q
+one_accepted_program files names p q accepted accepted_too =
+    one_program (input_of files names 4) p q accepted.program accepted_too.program
+
+-- the file of a fault is not before that of another
+not_before : (files : Files) (names : List (List ℕ)) (a b : Fault) → IsRefused files names a → IsRefused files names b → faulty_file a < faulty_file b → ⊥
+not_before files names a b refused refused_too before =
+    is_bad files names a refused ((is_first files names b refused_too).2 (faulty_file a) (is_first files names a refused).0 before)
+
+same_file : (files : Files) (names : List (List ℕ)) (a b : Fault) → IsRefused files names a → IsRefused files names b → faulty_file a ≡ faulty_file b
+same_file files names a b refused refused_too =
+    omega (arith, not_before files names a b refused refused_too, not_before files names b a refused_too refused)
+
+-- a file that is too long is not refused for its form
+not_both : (files : Files) (names : List (List ℕ)) (j k : ℕ) → j ≡ k → IsRefused files names (TooLong j) → IsRefused files names (NotYet k) → ⊥
+not_both files names j k same long unformed =
+    omega (arith, long.3, unformed.3, ap (λ file. length (input_of files names file)) same)
+
+-- the first bad file has one fault
+pub one_refusal : (files : Files) (names : List (List ℕ)) (a b : Fault) → IsRefused files names a → IsRefused files names b → a ≡ b
+one_refusal files names (TooLong j) (TooLong k) refused refused_too =
+    ap (λ file. TooLong file) (same_file files names (TooLong j) (TooLong k) refused refused_too)
+one_refusal files names (TooLong j) (NotYet k) refused refused_too =
+    absurd (not_both files names j k (same_file files names (TooLong j) (NotYet k) refused refused_too) refused refused_too)
+one_refusal files names (NotYet j) (TooLong k) refused refused_too =
+    absurd (not_both files names k j (same_file files names (TooLong k) (NotYet j) refused_too refused) refused_too refused)
+one_refusal files names (NotYet j) (NotYet k) refused refused_too =
+    ap (λ file. NotYet file) (same_file files names (NotYet j) (NotYet k) refused refused_too)
+
+-- a front of words that begin a command begins one
+front_begins : (words : List (List ℕ)) (n : ℕ) → BeginsCommand words → BeginsCommand (take n words)
+front_begins words n begins = (
+  drop n words ++ begins.0,
+  begins.1,
+  subst (λ ws. IsCommand ws begins.1) (sym (sym (append_assoc (take n words) (drop n words) begins.0) ∙ ap (λ ws. ws ++ begins.0) (take-append-drop n words))) begins.2,
+)
+
+-- the words of a command begin one
+command_begins : (words files : List (List ℕ)) → IsCommand words files → BeginsCommand words
+command_begins words files command =
+    ([], files, subst (λ ws. IsCommand ws files) (sym (append-nil words)) command)
+
+-- each front of a command begins one, also that with the wrong word
+pub usage_is_no_command : (words files : List (List ℕ)) (word : ℕ) → IsUsage words word → IsCommand words files → ⊥
+usage_is_no_command words files word usage command =
+    ⊎_elim
+    (λ none. usage.wanted none files command)
+    (λ less. usage.wrong less (front_begins words (suc word) (command_begins words files command)))
+    (eq-or-lt_of_le usage.within)
+
+-- the wrong word is not before another
+no_earlier : (words : List (List ℕ)) (a b : ℕ) → IsUsage words a → IsUsage words b → a < b → ⊥
+no_earlier words a b usage usage_too less =
+    usage.wrong (omega (arith, less, usage_too.within))
+    (subst (λ ws. BeginsCommand ws) (take-take (suc a) b words less) (front_begins (take b words) (suc a) usage_too.before))
+
+-- the first wrong word is one
+pub one_usage : (words : List (List ℕ)) (a b : ℕ) → IsUsage words a → IsUsage words b → a ≡ b
+one_usage words a b usage usage_too =
+    omega (arith, no_earlier words a b usage usage_too, no_earlier words b a usage_too usage)

@@ -1,0 +1,52 @@
+//! Facts about the definitions. A caller of one of these functions has its `ensures`; no code runs.
+ghost use Rattle.std.specs.Prelude.{◌≡◌, ◌⊎◌, ℕ, List, Some};
+ghost use Rattle.qc_core.specs.declared.answer.Fault.{Fault};
+ghost use Rattle.qc_core.specs.declared.answer.Status.{Status};
+ghost use Rattle.qc_core.specs.declared.answer.Status.TheVariants.{Done, NoMemory};
+ghost use Rattle.qc_core.specs.declared.constants.ConstantProgram.{ConstantProgram};
+ghost use Rattle.qc_core.specs.Answer.{IsAccepted, IsRefused, Leaves, Outside};
+ghost use Rattle.qc_core.specs.Command.{IsCommand, IsUsage};
+ghost use Rattle.qc_core.specs.ConstantProgram.{Spells};
+ghost use Rattle.qc_core.specs.Faults.{Rose};
+ghost use Rattle.qc_core.specs.Files.{Files};
+
+/// A text spells at most one program.
+pub fn one_program()
+    ensures { (bytes : List ℕ) (p q : ConstantProgram) → Spells bytes p → Spells bytes q → p ≡ q }
+{}
+
+/// Files of which a program is accepted are not refused.
+pub fn accepted_is_not_refused()
+    ensures { (files : Files) (names : List (List ℕ)) (p : ConstantProgram) (fault : Fault) →
+        IsAccepted files names p → IsRefused files names fault → ⊥ }
+{}
+
+/// A command that is accepted is done or runs out of memory, where the files are told and no count of faults rose.
+pub fn faultless_answers()
+    ensures { (names : List (List ℕ)) (files : Files) (p : ConstantProgram) (old new : Outside) (status : Status) →
+        old.files ≡ Some files → IsAccepted files names p →
+        (Rose old.shelf_faults new.shelf_faults → ⊥) → (Rose old.out_faults new.out_faults → ⊥) →
+        Leaves names old new status → (status ≡ Done) ⊎ (status ≡ NoMemory) }
+{}
+
+/// At most one program is accepted.
+pub fn one_accepted_program()
+    ensures { (files : Files) (names : List (List ℕ)) (p q : ConstantProgram) →
+        IsAccepted files names p → IsAccepted files names q → p ≡ q }
+{}
+
+/// Files are refused for at most one fault.
+pub fn one_refusal()
+    ensures { (files : Files) (names : List (List ℕ)) (a b : Fault) →
+        IsRefused files names a → IsRefused files names b → a ≡ b }
+{}
+
+/// Words that are a usage are no command.
+pub fn usage_is_no_command()
+    ensures { (words files : List (List ℕ)) (word : ℕ) → IsUsage words word → IsCommand words files → ⊥ }
+{}
+
+/// Words are a usage with at most one wrong word.
+pub fn one_usage()
+    ensures { (words : List (List ℕ)) (a b : ℕ) → IsUsage words a → IsUsage words b → a ≡ b }
+{}

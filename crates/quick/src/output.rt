@@ -1,0 +1,34 @@
+//! The output of the system.
+ghost use Rattle.std.specs.Prelude.{◌≡◌, None};
+
+use crate::files::{counted, write_whole};
+use qc_core::{Out, StoreEnd};
+use std::alloc::Global;
+use std::io;
+
+/// The output of the system, which tells nothing of what it was given.
+#[derive(Drop)]
+pub(crate) struct StandardOut<'a, P> {
+    rt: &'a P,
+    faults: u64,
+}
+
+impl<'a, P: Print> StandardOut<'a, P> {
+    pub(crate) fn new(rt: &'a P) -> StandardOut<'a, P>
+        ensures { result.faults ≡ 0 }
+    {
+        StandardOut { rt, faults: 0 }
+    }
+}
+
+impl<'a, P: Print> Out for StandardOut<'a, P> {
+    ghost written = { λ _. None };
+
+    ghost faults = { λ out. out.faults };
+
+    fn put(&mut self, _alloc: Global, piece: &[u8]) -> Result<(), StoreEnd> {
+        let put = write_whole(&mut io::writer(self.rt), piece);
+        self.faults = counted(self.faults, put.is_err());
+        put
+    }
+}
