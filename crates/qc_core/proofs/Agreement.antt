@@ -16,18 +16,18 @@ use Rattle.qc_core.proofs.Codes.{Code, code_for, code_decodes, code_has_words, c
 use Rattle.qc_core.proofs.Run.{IsRunning, can_run, run_is_at, seen_at}
 use Rattle.qc_core.proofs.Stages.{Stage, Running, next_stage, stage_shows, stage_finishes, steps_of, steps_below, steps_end, program_finishes, program_state_is, code_shows_program, shown_by}
 
-abbrev code_of : ConstantProgram → Code
+abbrev pub code_of : ConstantProgram → Code
 code_of p = code_for p.outputs p.returned
 
 -- the state and the stage in which the run begins
-abbrev start_of : ConstantProgram → List ℕ → State
+abbrev pub start_of : ConstantProgram → List ℕ → State
 start_of p input = loaded tin32 (image_of tin32 p) input
 
-abbrev first_stage : ConstantProgram → Stage
+abbrev pub first_stage : ConstantProgram → Stage
 first_stage p = Running (code_of p) 0 []
 
 -- what the program shows in the end
-abbrev last_shown : ConstantProgram → Observation
+abbrev pub last_shown : ConstantProgram → Observation
 last_shown p = shown_by (statements_of p) []
 
 has_words : (p : ConstantProgram) → IsConstantProgram p → HasWords (code_of p)
@@ -54,7 +54,7 @@ begins p input h =
     }
 
 -- the machine shows what the code's stages do
-seen_after : OneInstance → (p : ConstantProgram) (input : List ℕ) → IsConstantProgram p → (n : ℕ) (now : Progress) → RunsTo tin32 (start_of p input) n now → observed now ≡ stage_shows (steps_of next_stage (first_stage p) n)
+pub seen_after : OneInstance → (p : ConstantProgram) (input : List ℕ) → IsConstantProgram p → (n : ℕ) (now : Progress) → RunsTo tin32 (start_of p input) n now → observed now ≡ stage_shows (steps_of next_stage (first_stage p) n)
 seen_after one p input h n now runs =
     seen_at _ now (run_is_at one (first_stage p) (start_of p input) n now (begins p input h) runs)
 
@@ -64,7 +64,7 @@ machine_below one p input h n now runs =
     subst₂ Below (sym (seen_after one p input h n now runs)) (code_shows_program p.outputs p.returned 0 [])
     (steps_below stage_finishes (first_stage p) n)
 
-machine_end : OneInstance → (p : ConstantProgram) (input : List ℕ) → IsConstantProgram p → (n : ℕ) (now : Progress) → RunsTo tin32 (start_of p input) n now → length (instructs_of (code_of p)) ≤ n → observed now ≡ last_shown p
+pub machine_end : OneInstance → (p : ConstantProgram) (input : List ℕ) → IsConstantProgram p → (n : ℕ) (now : Progress) → RunsTo tin32 (start_of p input) n now → length (instructs_of (code_of p)) ≤ n → observed now ≡ last_shown p
 machine_end one p input h n now runs enough =
     seen_after one p input h n now runs ∙ steps_end stage_finishes (first_stage p) n enough
     ∙ code_shows_program p.outputs p.returned 0 []

@@ -15,6 +15,7 @@ pub mod ProgramTexts
 pub mod SameBytes
 pub mod Ready
 pub mod Run
+pub mod Seven
 pub mod Stages
 pub mod Steps
 pub mod Tin32Valid

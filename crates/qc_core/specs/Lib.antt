@@ -4,6 +4,7 @@ pub mod Code
 pub mod Command
 pub mod ConstantProgram
 pub mod Decoding
+pub mod Example
 pub mod Faults
 pub mod Files
 pub mod Headline

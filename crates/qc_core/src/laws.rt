@@ -5,10 +5,18 @@ ghost use Rattle.qc_core.specs.declared.answer.Status.{Status};
 ghost use Rattle.qc_core.specs.declared.answer.Status.TheVariants.{Done, NoMemory};
 ghost use Rattle.qc_core.specs.declared.constants.ConstantProgram.{ConstantProgram};
 ghost use Rattle.qc_core.specs.Answer.{IsAccepted, IsRefused, Leaves, Outside};
+ghost use Rattle.qc_core.specs.Code.{image_of};
 ghost use Rattle.qc_core.specs.Command.{IsCommand, IsUsage};
 ghost use Rattle.qc_core.specs.ConstantProgram.{Spells};
+ghost use Rattle.qc_core.specs.Example.{seven, seven_image, seven_shows, seven_text};
 ghost use Rattle.qc_core.specs.Faults.{Rose};
 ghost use Rattle.qc_core.specs.Files.{Files};
+ghost use Rattle.qc_core.specs.ImageFile.{image_bytes};
+ghost use Rattle.qc_core.specs.Tin32.{tin32};
+ghost use Rattle.qc_descr.specs.Loading.{loaded};
+ghost use Rattle.qc_descr.specs.Step.{Progress, RunsTo, observed};
+
+use qc_descr::one_instance;
 
 /// A text spells at most one program.
 pub fn one_program()
@@ -50,3 +58,17 @@ pub fn usage_is_no_command()
 pub fn one_usage()
     ensures { (words : List (List ℕ)) (a b : ℕ) → IsUsage words a → IsUsage words b → a ≡ b }
 {}
+
+/// The definitions give the text and the image of the program that puts out 7 and returns 0 as they are by hand.
+pub fn example_of_seven()
+    ensures text { Spells seven_text seven }
+    ensures image { image_bytes (image_of tin32 seven) ≡ seven_image }
+{}
+
+/// On every input the machine that runs that image shows, after each number of steps, what it should by hand.
+pub fn run_of_seven()
+    ensures { (input : List ℕ) (steps : ℕ) (p : Progress) →
+        RunsTo tin32 (loaded tin32 (image_of tin32 seven) input) steps p → observed p ≡ seven_shows steps }
+{
+    one_instance();
+}

@@ -30,8 +30,8 @@ pub use decoding::decode;
 pub use encoding::encode;
 pub use image_file::write_image;
 pub use laws::{
-    accepted_is_not_refused, faultless_answers, one_accepted_program, one_program, one_refusal,
-    one_usage, usage_is_no_command,
+    accepted_is_not_refused, example_of_seven, faultless_answers, one_accepted_program,
+    one_program, one_refusal, one_usage, run_of_seven, usage_is_no_command,
 };
 pub use machine::Machine;
 pub use machines::tin32;

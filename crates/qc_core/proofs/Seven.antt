@@ -1,0 +1,37 @@
+-- The definitions, computed on the program that puts out 7 and returns 0.
+use Rattle.std.proofs.Common.{◌≡◌, ◌<◌, ◌^◌, ℕ, zero, suc, List, [], ◌∷◌, refl, ap, sym, ◌∙◌, arith, lit<, lit≤, inl}
+use Rattle.std.proofs.lemmas.Fmt.{decimal_digit}
+use Rattle.std.proofs.lemmas.List.Elements.{All-from_recursion}
+use Rattle.qc_descr.specs.Loading.{loaded}
+use Rattle.qc_descr.specs.Step.{OneInstance, Progress, RunsTo, observed}
+use Rattle.qc_core.specs.Code.{image_of}
+use Rattle.qc_core.specs.ConstantProgram.{IsConstantProgram, Spells, program_text}
+use Rattle.qc_core.specs.Example.{seven, seven_image, seven_shows, seven_text}
+use Rattle.qc_core.specs.ImageFile.{image_bytes}
+use Rattle.qc_core.specs.Tin32.{tin32, tin32_instructions, const_instruction, out_instruction, halt_instruction, register_instruction, first_token, empty_token, immediate_token, each_below}
+use Rattle.qc_core.proofs.Agreement.{seen_after, machine_end}
+
+small : IsConstantProgram seven
+small = record {
+  few = lit≤ tt;
+  outputs = All-from_recursion (λ word. word < 2 ^ 32) (7 ∷ []) (lit< tt, tt);
+  returned = lit< tt;
+}
+
+pub text_of_seven : Spells seven_text seven
+unfolding program_text
+text_of_seven = record {
+  program = small;
+  text = ([], inl refl, rw (decimal_digit 7 (lit< tt), decimal_digit 0 (lit< tt)) refl);
+}
+
+pub image_of_seven : image_bytes (image_of tin32 seven) ≡ seven_image
+unfolding image_bytes tin32 tin32_instructions const_instruction out_instruction halt_instruction register_instruction first_token empty_token immediate_token each_below
+image_of_seven = refl
+
+pub run_of_seven : OneInstance → (input : List ℕ) (steps : ℕ) (p : Progress) → RunsTo tin32 (loaded tin32 (image_of tin32 seven) input) steps p → observed p ≡ seven_shows steps
+run_of_seven one input zero p runs = seen_after one seven input small 0 p runs
+run_of_seven one input (suc zero) p runs = seen_after one seven input small 1 p runs
+run_of_seven one input (suc (suc zero)) p runs = seen_after one seven input small 2 p runs
+run_of_seven one input (suc (suc (suc zero))) p runs = seen_after one seven input small 3 p runs
+run_of_seven one input (suc (suc (suc (suc n)))) p runs = machine_end one seven input small (suc (suc (suc (suc n)))) p runs (omega arith)
