@@ -26,6 +26,13 @@ files_of shelf = files_from shelf.files.items
 abbrev pub faults_of : MemShelf → ℕ
 faults_of shelf = shelf.calls.faults
 
+-- the numbers of the calls that are to fail, and how many calls were made
+abbrev pub failing_of : MemShelf → List ℕ
+failing_of shelf = shelf.calls.failing.items
+
+abbrev pub calls_of : MemShelf → ℕ
+calls_of shelf = shelf.calls.made
+
 -- no pair before the place has the name
 abbrev pub NoneBefore : List File → List ℕ → ℕ → Type 0
 NoneBefore files name place = (k : ℕ) → k < place → (file : File) → slice_get files k ≡ Some file → string_bytes file.0 ≢ name

@@ -12,7 +12,9 @@ pub(crate) struct Calls {
 
 impl Calls {
     pub(crate) fn new(failing: Vec<u64>) -> Calls
-        ensures { result.faults ≡ 0 }
+        ensures failing { result.failing.items ≡ failing.items }
+        ensures made { result.made ≡ 0 }
+        ensures faults { result.faults ≡ 0 }
     {
         Calls {
             failing,

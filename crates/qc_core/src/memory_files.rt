@@ -2,7 +2,7 @@
 ghost use Rattle.std.specs.Prelude.{◌≡◌, ◌<◌, ◌↔◌, ℕ, Some, IsTrue, IfOk, OnOk, OnErr, IfSome, IsNone, length, string_bytes, option_copied};
 ghost use Rattle.std.specs.FinMap.{get, insert};
 ghost use Rattle.qc_core.specs.Files.{file_limit};
-ghost use Rattle.qc_core.specs.MemoryFiles.{files_from, files_of, faults_of, NoneBefore, IsFirst};
+ghost use Rattle.qc_core.specs.MemoryFiles.{files_from, files_of, calls_of, failing_of, faults_of, NoneBefore, IsFirst};
 
 use crate::calls::Calls;
 use crate::outside::{ReadEnd, Shelf, StoreEnd, is_too_long};
@@ -71,6 +71,8 @@ impl MemShelf {
     pub fn new(files: Vec<(String, Vec<u8>)>, failing: Vec<u64>) -> MemShelf
         ensures files { files_of result ≡ files_from files.items }
         ensures faults { faults_of result ≡ 0 }
+        ensures failing { failing_of result ≡ failing.items }
+        ensures calls { calls_of result ≡ 0 }
     {
         MemShelf {
             files,

@@ -1,6 +1,6 @@
 //! An output that lies in memory.
 ghost use Rattle.std.specs.Prelude.{◌≡◌, [], Some};
-ghost use Rattle.qc_core.specs.MemoryOut.{written_of, faults_of};
+ghost use Rattle.qc_core.specs.MemoryOut.{calls_of, failing_of, faults_of, written_of};
 
 use crate::calls::Calls;
 use crate::outside::{Out, StoreEnd};
@@ -19,6 +19,8 @@ impl MemOut {
     pub fn new(alloc: Global, failing: Vec<u64>) -> MemOut
         ensures written { written_of result ≡ [] }
         ensures faults { faults_of result ≡ 0 }
+        ensures failing { failing_of result ≡ failing.items }
+        ensures calls { calls_of result ≡ 0 }
     {
         MemOut {
             written: Vec::new(alloc),
