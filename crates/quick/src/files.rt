@@ -98,3 +98,6 @@ impl<'a, R: Files> Shelf for FileShelf<'a, R> {
         written
     }
 }
+
+#[cfg(test)]
+mod tests;
