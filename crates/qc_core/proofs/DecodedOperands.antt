@@ -166,7 +166,7 @@ below_size d (kind.Imm width) size operand has range = subst (λ n. operand < 2 
 few_cells : (d : Description) (space : ℕ) → IsWithinLimits d → space < length d.spaces → slice_index (counts_of d) space ≤ 64
 few_cells d space limits h =
     let none : Space = record { name = []; cells = 0; width = 1; flags = false } in
-    subst (λ n. n ≤ 64) (sym (get_or-map (λ (s : Space). s.cells) d.spaces space none 0 h)) (limits.cells space none h).1
+    subst (λ n. n ≤ 64) (sym (get_or-map (λ (s : Space). s.cells) d.spaces space none 0 h)) (limits.cells space none h)
 
 pub in_range_small : (d : Description) (k : OperandKind) (size operand : ℕ) → IsWithinLimits d → IsNarrow k → HasSize d k size → IsInRange d k operand →
     operand < 2 ^ 64

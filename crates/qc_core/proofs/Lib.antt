@@ -6,6 +6,7 @@ pub mod EncodedBytes
 pub mod Endings
 pub mod Exclusions
 pub mod Fronts
+pub mod ImageFiles
 pub mod Instances
 pub mod Loaded
 pub mod MemoryFiles

@@ -3,7 +3,7 @@ use Rattle.std.proofs.Common.{◌≡◌, ◌<◌, ◌^◌, ℕ, ◌+◌, List, [
 use Rattle.qc_terms.specs.declared.state.Event.TheVariants.{Quiet, Out, Ended}
 use Rattle.qc_terms.specs.declared.state.State.{State}
 use Rattle.qc_terms.specs.declared.term.Place.TheVariants.{Operand}
-use Rattle.qc_terms.specs.Effects.{Outcome, outcome_of}
+use Rattle.qc_terms.specs.Effects.{Outcome, effect_has_input, outcome_of, writes_of_effect}
 use Rattle.qc_terms.specs.Tree.{tree_of-imm, tree_of-reg}
 use Rattle.qc_descr.specs.Step.{EncodesAt, OneInstance, StepsBy, StepsFrom, Steps, address_after}
 use Rattle.qc_core.specs.Code.{instance_bytes}
@@ -56,13 +56,13 @@ ready_steps_so one c s r o step =
 
 -- what the instruction does, where cell 0 of the one space is this
 pub outcome_load : (word cell : ℕ) (others : List ℕ) (rest : Code) (s : State) → s.facts.zero ≡ None → s.cells ≡ (cell ∷ others) ∷ [] → first_outcome (Load word rest) s ≡ record { state = record s { pc = s.pc + 8; cells = (word ∷ others) ∷ [] }; event = Quiet }
-unfolding const_instruction
+unfolding const_instruction effect_has_input writes_of_effect
 outcome_load word cell others rest s z e = rw (tree_of-imm 1 32, z, e) refl
 
 pub outcome_put : (cell : ℕ) (others : List ℕ) (rest : Code) (s : State) → s.facts.zero ≡ None → s.cells ≡ (cell ∷ others) ∷ [] → first_outcome (Put rest) s ≡ record { state = record s { pc = s.pc + 8 }; event = Out cell }
-unfolding out_instruction register_instruction
+unfolding out_instruction register_instruction effect_has_input writes_of_effect
 outcome_put cell others rest s z e = rw (tree_of-reg (Operand 0 0) 32, z, e) refl
 
 pub outcome_halt : (cell : ℕ) (others : List ℕ) (s : State) → s.facts.zero ≡ None → s.cells ≡ (cell ∷ others) ∷ [] → first_outcome Halt s ≡ record { state = record s { pc = s.pc + 8; ending = Some (Ended cell) }; event = Ended cell }
-unfolding halt_instruction register_instruction
+unfolding halt_instruction register_instruction effect_has_input writes_of_effect
 outcome_halt cell others s z e = rw (tree_of-reg (Operand 0 0) 32, z, e) refl

@@ -1,10 +1,11 @@
 -- tin32 is a valid description.
-use Rattle.std.proofs.Common.{◌≡◌, ◌≤◌, [], ◌∷◌, refl, ap, inr, arith, lit<, lit≤}
+use Rattle.std.proofs.Common.{◌≡◌, ◌≤◌, [], ◌∷◌, refl, sym, ap, inr, arith, lit<, lit≤}
+use Rattle.std.proofs.lemmas.Option.{same_Some}
 use Rattle.std.proofs.lemmas.List.Elements.{All-from_recursion}
 use Rattle.std.specs.Prelude.{All, length, true, ◌%◌}
 use Rattle.qc_descr.specs.declared.description.Space.{Space}
 use Rattle.qc_descr.specs.declared.description.Instruction.{Instruction}
-use Rattle.qc_descr.specs.Valid.{HasLayout, IsWithinLimits, IsValidInstruction, IsValid, EffectNames, all_below}
+use Rattle.qc_descr.specs.Valid.{HasLayout, IsWithinLimits, IsValidInstruction, IsValid, EffectNames, all_below, nodes_of_rtl}
 use Rattle.qc_terms.specs.declared.term.Place.TheVariants.{Operand}
 use Rattle.qc_terms.specs.Tree.{tree_of-imm, tree_of-reg}
 use Rattle.qc_terms.specs.Typing.{IsTypedEffect}
@@ -43,7 +44,7 @@ layout = record {
   free_frame = λ h. omega (arith, h.2);
   free_link = λ h. omega (arith, h.2);
   free_zero = tt;
-  no_flags = refl;
+  no_flags = λ s is. sym (ap (λ (x : Space). x.flags) (same_Some _ _ is));
   flags = one_holds (λ (s : Space). s.flags ≡ true → s.width ≡ 1) _ (λ e. cc);
 }
 
@@ -53,21 +54,21 @@ limits = record {
   instructions = lit≤ tt;
   operands = three_hold (λ (i : Instruction). length i.operands ≤ 8) const_instruction out_instruction halt_instruction (lit≤ tt) (lit≤ tt) (lit≤ tt);
   spaces = lit≤ tt;
-  cells = one_holds (λ (s : Space). (1 ≤ s.cells) × (s.cells ≤ 64)) _ (lit≤ tt, lit≤ tt);
+  cells = one_holds (λ (s : Space). s.cells ≤ 64) _ (lit≤ tt);
+  effects = three_hold (λ (i : Instruction). length i.rtl.effects ≤ 16) const_instruction out_instruction halt_instruction (lit≤ tt) (lit≤ tt) (lit≤ tt);
+  nodes = three_hold (λ (i : Instruction). nodes_of_rtl i.rtl ≤ 4096) const_instruction out_instruction halt_instruction
+      (rw (tree_of-imm 1 32) (lit≤ tt)) (rw (tree_of-reg (Operand 0 0) 32) (lit≤ tt)) (rw (tree_of-reg (Operand 0 0) 32) (lit≤ tt));
 }
 
 const_valid : IsValidInstruction tin32 const_instruction
 unfolding tin32 tin32_spaces const_instruction first_token immediate_token each_below all_below
 const_valid = record {
-  typed = record {
-    effects = one_holds (IsTypedEffect (context_of_description tin32)) _ (record {
-      guard = tt;
-      value = rw (tree_of-imm 1 32) tt;
-      to = rw (tree_of-imm 1 32) (lit< tt, refl);
-    });
-    events = lit≤ tt;
-    few = lit≤ tt;
-  };
+  typed = one_holds (IsTypedEffect (context_of_description tin32)) _ (record {
+    guard = tt;
+    value = rw (tree_of-imm 1 32) tt;
+    to = rw (tree_of-imm 1 32) (lit< tt, refl);
+  });
+  event = lit≤ tt;
   names = one_holds (EffectNames (kinds_of const_instruction)) _ (record {
     guard = tt;
     value = rw (tree_of-imm 1 32) refl;
@@ -88,15 +89,12 @@ const_valid = record {
 out_valid : IsValidInstruction tin32 out_instruction
 unfolding tin32 tin32_spaces out_instruction register_instruction first_token empty_token each_below all_below
 out_valid = record {
-  typed = record {
-    effects = one_holds (IsTypedEffect (context_of_description tin32)) _ (record {
-      guard = tt;
-      value = rw (tree_of-reg (Operand 0 0) 32) (lit< tt, refl);
-      to = rw (tree_of-reg (Operand 0 0) 32) refl;
-    });
-    events = lit≤ tt;
-    few = lit≤ tt;
-  };
+  typed = one_holds (IsTypedEffect (context_of_description tin32)) _ (record {
+    guard = tt;
+    value = rw (tree_of-reg (Operand 0 0) 32) (lit< tt, refl);
+    to = rw (tree_of-reg (Operand 0 0) 32) refl;
+  });
+  event = lit≤ tt;
   names = one_holds (EffectNames (kinds_of out_instruction)) _ (record {
     guard = tt;
     value = rw (tree_of-reg (Operand 0 0) 32) refl;
@@ -117,15 +115,12 @@ out_valid = record {
 halt_valid : IsValidInstruction tin32 halt_instruction
 unfolding tin32 tin32_spaces halt_instruction register_instruction first_token empty_token each_below all_below
 halt_valid = record {
-  typed = record {
-    effects = one_holds (IsTypedEffect (context_of_description tin32)) _ (record {
-      guard = tt;
-      value = rw (tree_of-reg (Operand 0 0) 32) (lit< tt, refl);
-      to = rw (tree_of-reg (Operand 0 0) 32) refl;
-    });
-    events = lit≤ tt;
-    few = lit≤ tt;
-  };
+  typed = one_holds (IsTypedEffect (context_of_description tin32)) _ (record {
+    guard = tt;
+    value = rw (tree_of-reg (Operand 0 0) 32) (lit< tt, refl);
+    to = rw (tree_of-reg (Operand 0 0) 32) refl;
+  });
+  event = lit≤ tt;
   names = one_holds (EffectNames (kinds_of halt_instruction)) _ (record {
     guard = tt;
     value = rw (tree_of-reg (Operand 0 0) 32) refl;

@@ -193,6 +193,18 @@ Leaves names old new OutFault =
 Leaves names old new NoMemory =
     ((new.files ≡ old.files) ⊎ ((image : Image) × Stores names image old.files new.files)) × (new.written ≡ old.written)
 
+-- No fault of the shelf was counted, unless the status tells one.
+abbrev pub KeepsShelfFaults : Status → ℕ → ℕ → Type 0
+KeepsShelfFaults (ReadFault file) before now = Unit {0}
+KeepsShelfFaults WriteFault before now = Unit {0}
+KeepsShelfFaults _ before now = now ≡ before
+
+-- No fault of the output was counted, unless the status tells one, or is a refusal, whose line may not have been put.
+abbrev pub KeepsOutFaults : Status → ℕ → ℕ → Type 0
+KeepsOutFaults OutFault before now = Unit {0}
+KeepsOutFaults (Refused fault) before now = Unit {0}
+KeepsOutFaults _ before now = now ≡ before
+
 -- Words that are no command are a usage, which changes nothing. All other answers are those of a command.
 abbrev pub IsAnswer : List (List ℕ) → Outside → Outside → Status → Type 0
 IsAnswer words old new status =

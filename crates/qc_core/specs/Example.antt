@@ -1,5 +1,5 @@
 -- The program that puts out 7 and returns 0: what its text, its image and its run are, by hand.
-use Rattle.std.specs.Prelude.{ℕ, zero, suc, List, [], ◌∷◌, Option, None, Some, codes}
+use Rattle.std.specs.Prelude.{ℕ, zero, suc, List, [], ◌∷◌, None, Some, codes}
 use Rattle.qc_terms.specs.declared.state.Event.TheVariants.{Ended}
 use Rattle.qc_terms.specs.Observation.{Observation}
 use Rattle.qc_core.specs.declared.constants.ConstantProgram.{ConstantProgram}

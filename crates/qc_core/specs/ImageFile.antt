@@ -1,5 +1,5 @@
 -- The file of an image.
-use Rattle.std.specs.Prelude.{ℕ, List, [], ◌∷◌, ◌++◌, length, codes}
+use Rattle.std.specs.Prelude.{ℕ, ◌<◌, ◌^◌, List, [], ◌∷◌, ◌++◌, length, codes}
 use Rattle.std.specs.Int.{to_le_bytes, w32}
 use Rattle.qc_terms.specs.declared.state.Order.{Order}
 use Rattle.qc_terms.specs.declared.state.Order.TheVariants.{Little, Big}
@@ -15,3 +15,8 @@ unfoldable pub image_bytes : Image → List ℕ
 image_bytes image =
     (codes "QCI1" ++ image.word ∷ order_byte image.order ∷ 0 ∷ 0 ∷ [])
     ++ (to_le_bytes w32 (length image.code) ++ (to_le_bytes w32 (length image.initial) ++ (image.code ++ image.initial)))
+
+-- the lengths of the code and of the data each fit into four bytes
+pub record HasFile (image : Image) : Type 0 where
+  pub code : length image.code < 2 ^ 32
+  pub initial : length image.initial < 2 ^ 32

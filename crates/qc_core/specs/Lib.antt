@@ -1,5 +1,6 @@
 pub mod Agreement
 pub mod Answer
+pub mod Calls
 pub mod Code
 pub mod Command
 pub mod ConstantProgram

@@ -1,8 +1,9 @@
 -- Files that lie in memory, as pairs of a name and a content.
-use Rattle.std.specs.Prelude.{ℕ, List, map, String, Vec, string_bytes, ◌≡◌, ◌≢◌, ◌<◌, Some}
+use Rattle.std.specs.Prelude.{ℕ, List, map, String, Vec, string_bytes, ◌≡◌, ◌≢◌, ◌<◌, ◌⊎◌, None, Some}
 use Rattle.std.specs.List.{slice_get}
-use Rattle.std.specs.FinMap.{from_entries}
+use Rattle.std.specs.FinMap.{from_entries, get}
 use Rattle.std.specs.declared.alloc.Global.{Global}
+use Rattle.qc_core.specs.Calls.{NextFails}
 use Rattle.qc_core.specs.Files.{Files}
 use Rattle.qc_core.specs.declared.memory_files.MemShelf.{MemShelf}
 
@@ -32,6 +33,11 @@ failing_of shelf = shelf.calls.failing.items
 
 abbrev pub calls_of : MemShelf → ℕ
 calls_of shelf = shelf.calls.made
+
+-- The next read of a file fails: its number is one of those that are to fail, or the file isn't there.
+abbrev pub FailsToRead : MemShelf → List ℕ → Type 0
+FailsToRead shelf name =
+    NextFails (failing_of shelf) (calls_of shelf) ⊎ (get (files_of shelf) name ≡ None)
 
 -- no pair before the place has the name
 abbrev pub NoneBefore : List File → List ℕ → ℕ → Type 0

@@ -1,6 +1,7 @@
 //! Calls that are told to fail.
-ghost use Rattle.std.specs.Prelude.{◌≡◌, ◌≤◌, IsTrue};
-ghost use Rattle.qc_core.specs.Faults.{Rose};
+ghost use Rattle.std.specs.Prelude.{◌≡◌, ◌≤◌, ◌↔◌, IsTrue, if◌then◌else◌};
+ghost use Rattle.qc_core.specs.Calls.{NextFails};
+ghost use Rattle.qc_core.specs.Faults.{next_count};
 
 /// The calls made so far, from 1, the numbers of those that fail, and how many have failed.
 #[derive(Debug, Drop)]
@@ -25,7 +26,7 @@ impl Calls {
 
     /// Counts a fault.
     pub(crate) fn fail(&mut self)
-        ensures rose { Rose self.old.faults self.new.faults }
+        ensures counts { self.new ≡ record self.old { faults = next_count self.old.faults } }
         ensures later { self.old.faults ≤ self.new.faults }
     {
         self.faults = self.faults.saturating_add(1);
@@ -33,7 +34,11 @@ impl Calls {
 
     /// Begins the next call, and counts a fault where it is to fail.
     pub(crate) fn begin_fails(&mut self) -> bool
-        ensures rose { IsTrue result → Rose self.old.faults self.new.faults }
+        ensures fails { IsTrue result ↔ NextFails self.old.failing.items self.old.made }
+        ensures counts { self.new ≡ record self.old {
+          made = next_count self.old.made;
+          faults = (if result then next_count self.old.faults else self.old.faults);
+        } }
         ensures later { self.old.faults ≤ self.new.faults }
     {
         self.made = self.made.saturating_add(1);

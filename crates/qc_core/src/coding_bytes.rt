@@ -41,8 +41,7 @@ pub fn memory_byte(coding: &Coding, order: Order, place: usize) -> &[Bit]
         place -= bytes;
         bits = &bits[8 * bytes..];
     }
-    // Not reached: the tokens have a byte at each place.
-    bits
+    unreachable!()
 }
 
 /// A bit's value under the operands.

@@ -1,6 +1,6 @@
 //! The commands, and the one call that the program makes.
 ghost use Rattle.std.specs.Prelude.{◌≡◌, ◌≤◌, ℕ, List, drop, string_bytes, IfOk};
-ghost use Rattle.qc_core.specs.Answer.{Finishes, IsAnswer, Leaves, TellsImage, TellsRefusal};
+ghost use Rattle.qc_core.specs.Answer.{Finishes, IsAnswer, KeepsOutFaults, KeepsShelfFaults, Leaves, TellsImage, TellsRefusal};
 ghost use Rattle.qc_core.specs.Code.{image_of};
 ghost use Rattle.qc_core.specs.Command.{texts_of, IsCommand};
 ghost use Rattle.qc_core.specs.ConstantProgram.{IsConstantProgram};
@@ -39,6 +39,7 @@ fn image_file(alloc: Global, program: &ConstantProgram) -> Result<(Image, Vec<u8
 /// Puts the line of an image that was compiled.
 fn tell_image<O: Out>(alloc: Global, out: &mut O, image: &Image) -> Status
     ensures told { TellsImage image.now (O.written out.old) (O.written out.new) (O.faults out.old) (O.faults out.new) result }
+    ensures kept { KeepsOutFaults result (O.faults out.old) (O.faults out.new) }
     ensures later { O.faults out.old ≤ O.faults out.new }
 {
     let line = match compiled_line(alloc, image) {
@@ -55,6 +56,7 @@ fn tell_image<O: Out>(alloc: Global, out: &mut O, image: &Image) -> Status
 /// Puts the line of a refusal. Where this fails the refusal stands.
 fn tell_refusal<O: Out>(alloc: Global, out: &mut O, fault: Fault) -> Status
     ensures told { TellsRefusal fault (O.written out.old) (O.written out.new) (O.faults out.old) (O.faults out.new) result }
+    ensures kept { KeepsOutFaults result (O.faults out.old) (O.faults out.new) }
     ensures later { O.faults out.old ≤ O.faults out.new }
 {
     let line = match refusal_line(alloc, fault) {
@@ -76,7 +78,9 @@ fn finish<S: Shelf, O: Out>(
     out: &mut O,
 ) -> Status
     requires { IsConstantProgram program.now }
+    ensures shelf_kept { KeepsShelfFaults result (S.faults shelf.old) (S.faults shelf.new) }
     ensures shelf_later { S.faults shelf.old ≤ S.faults shelf.new }
+    ensures out_kept { KeepsOutFaults result (O.faults out.old) (O.faults out.new) }
     ensures out_later { O.faults out.old ≤ O.faults out.new }
     ensures finished { Finishes program.now (string_bytes name.now)
         (record { files = S.files shelf.old; shelf_faults = S.faults shelf.old; written = O.written out.old; out_faults = O.faults out.old })
@@ -102,7 +106,9 @@ fn compile_command<S: Shelf, O: Out>(
     out: &mut O,
 ) -> Status
     requires { IsCommand (texts_of words.now.items) (drop 1 (texts_of words.now.items)) }
+    ensures shelf_kept { KeepsShelfFaults result (S.faults shelf.old) (S.faults shelf.new) }
     ensures shelf_later { S.faults shelf.old ≤ S.faults shelf.new }
+    ensures out_kept { KeepsOutFaults result (O.faults out.old) (O.faults out.new) }
     ensures out_later { O.faults out.old ≤ O.faults out.new }
     ensures leaves { Leaves (drop 1 (texts_of words.now.items))
         (record { files = S.files shelf.old; shelf_faults = S.faults shelf.old; written = O.written out.old; out_faults = O.faults out.old })
@@ -125,7 +131,9 @@ pub fn quick<S: Shelf, O: Out>(
     shelf: &mut S,
     out: &mut O,
 ) -> Status
+    ensures shelf_kept { KeepsShelfFaults result (S.faults shelf.old) (S.faults shelf.new) }
     ensures shelf_later { S.faults shelf.old ≤ S.faults shelf.new }
+    ensures out_kept { KeepsOutFaults result (O.faults out.old) (O.faults out.new) }
     ensures out_later { O.faults out.old ≤ O.faults out.new }
     ensures answer { IsAnswer (texts_of words.now.items)
         (record { files = S.files shelf.old; shelf_faults = S.faults shelf.old; written = O.written out.old; out_faults = O.faults out.old })

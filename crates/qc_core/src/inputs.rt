@@ -1,6 +1,6 @@
 //! The files that a command reads, in the order of its words. Each is tested before the next is read.
-ghost use Rattle.std.specs.Prelude.{◌≡◌, ◌≤◌, ◌<◌, ◌↔◌, List, ℕ, length, drop, string_bytes, IfOk, IfErr, IfSome, IsTrue, OnOk};
-ghost use Rattle.qc_core.specs.Answer.{HasForm, GoodBefore, IsAccepted, name_of, StopsAt, StopsReading};
+ghost use Rattle.std.specs.Prelude.{◌≡◌, ◌≤◌, ◌<◌, ◌↔◌, List, ℕ, length, drop, string_bytes, IfOk, IfErr, IfSome, IsTrue, MatchResult, OnOk};
+ghost use Rattle.qc_core.specs.Answer.{HasForm, GoodBefore, IsAccepted, KeepsShelfFaults, name_of, StopsAt, StopsReading};
 ghost use Rattle.qc_core.specs.Command.{texts_of, IsCommand};
 ghost use Rattle.qc_core.specs.ConstantProgram.{IsConstantProgram, Spells};
 ghost use Rattle.qc_core.specs.Files.{content_of, file_limit};
@@ -46,6 +46,8 @@ fn read_input<S: Shelf>(
     ensures limit { IfOk result (λ bytes. length bytes.items ≤ file_limit) }
     ensures stops { IfErr result (StopsAt file (string_bytes name.now) (S.files shelf.old) (S.faults shelf.old) (S.faults shelf.new)) }
     ensures files { S.files shelf.new ≡ S.files shelf.old }
+    ensures kept { MatchResult result (λ _. S.faults shelf.new ≡ S.faults shelf.old)
+        (λ status. KeepsShelfFaults status (S.faults shelf.old) (S.faults shelf.new)) }
     ensures later { S.faults shelf.old ≤ S.faults shelf.new }
 {
     match shelf.read(alloc, name) {
@@ -69,6 +71,8 @@ fn read_stand_in<S: Shelf>(
     ensures good { OnOk result (IfSome (S.files shelf.old) (λ files. (length (content_of files (string_bytes name.now)) ≤ file_limit) × HasForm file (content_of files (string_bytes name.now)))) }
     ensures stops { IfErr result (StopsAt file (string_bytes name.now) (S.files shelf.old) (S.faults shelf.old) (S.faults shelf.new)) }
     ensures files { S.files shelf.new ≡ S.files shelf.old }
+    ensures kept { MatchResult result (λ _. S.faults shelf.new ≡ S.faults shelf.old)
+        (λ status. KeepsShelfFaults status (S.faults shelf.old) (S.faults shelf.new)) }
     ensures later { S.faults shelf.old ≤ S.faults shelf.new }
 {
     let bytes = read_input(alloc, shelf, name, file)?;
@@ -90,6 +94,8 @@ fn read_constant_program<S: Shelf>(
     ensures spells { IfOk result (λ p. IfSome (S.files shelf.old) (λ files. (length (content_of files (string_bytes name.now)) ≤ file_limit) × Spells (content_of files (string_bytes name.now)) p)) }
     ensures stops { IfErr result (StopsAt 4 (string_bytes name.now) (S.files shelf.old) (S.faults shelf.old) (S.faults shelf.new)) }
     ensures files { S.files shelf.new ≡ S.files shelf.old }
+    ensures kept { MatchResult result (λ _. S.faults shelf.new ≡ S.faults shelf.old)
+        (λ status. KeepsShelfFaults status (S.faults shelf.old) (S.faults shelf.new)) }
     ensures later { S.faults shelf.old ≤ S.faults shelf.new }
 {
     let bytes = read_input(alloc, shelf, name, PROGRAM)?;
@@ -120,6 +126,8 @@ fn read_stand_ins<S: Shelf>(alloc: Global, words: &Vec<String>, shelf: &mut S) -
     ensures good { OnOk result (IfSome (S.files shelf.old) (λ files. GoodBefore files (drop 1 (texts_of words.now.items)) 4)) }
     ensures stops { IfErr result (StopsReading (drop 1 (texts_of words.now.items)) (S.files shelf.old) (S.faults shelf.old) (S.faults shelf.new)) }
     ensures files { S.files shelf.new ≡ S.files shelf.old }
+    ensures kept { MatchResult result (λ _. S.faults shelf.new ≡ S.faults shelf.old)
+        (λ status. KeepsShelfFaults status (S.faults shelf.old) (S.faults shelf.new)) }
     ensures later { S.faults shelf.old ≤ S.faults shelf.new }
 {
     for file in 1..PROGRAM {
@@ -142,6 +150,8 @@ pub(crate) fn read_inputs<S: Shelf>(
     ensures accepted { IfOk result (λ p. IfSome (S.files shelf.old) (λ files. IsAccepted files (drop 1 (texts_of words.now.items)) p)) }
     ensures stops { IfErr result (StopsReading (drop 1 (texts_of words.now.items)) (S.files shelf.old) (S.faults shelf.old) (S.faults shelf.new)) }
     ensures files { S.files shelf.new ≡ S.files shelf.old }
+    ensures kept { MatchResult result (λ _. S.faults shelf.new ≡ S.faults shelf.old)
+        (λ status. KeepsShelfFaults status (S.faults shelf.old) (S.faults shelf.new)) }
     ensures later { S.faults shelf.old ≤ S.faults shelf.new }
 {
     match read_stand_ins(alloc, words, shelf) {

@@ -11,8 +11,9 @@ ghost use Rattle.qc_core.specs.ConstantProgram.{Spells};
 ghost use Rattle.qc_core.specs.Example.{seven, seven_image, seven_shows, seven_text};
 ghost use Rattle.qc_core.specs.Faults.{Rose};
 ghost use Rattle.qc_core.specs.Files.{Files};
-ghost use Rattle.qc_core.specs.ImageFile.{image_bytes};
+ghost use Rattle.qc_core.specs.ImageFile.{HasFile, image_bytes};
 ghost use Rattle.qc_core.specs.Tin32.{tin32};
+ghost use Rattle.qc_terms.specs.declared.image.Image.{Image};
 ghost use Rattle.qc_descr.specs.Loading.{loaded};
 ghost use Rattle.qc_descr.specs.Step.{Progress, RunsTo, observed};
 
@@ -57,6 +58,11 @@ pub fn usage_is_no_command()
 /// Words are a usage with at most one wrong word.
 pub fn one_usage()
     ensures { (words : List (List ℕ)) (a b : ℕ) → IsUsage words a → IsUsage words b → a ≡ b }
+{}
+
+/// A file has the bytes of at most one image.
+pub fn one_image()
+    ensures { (a b : Image) → HasFile a → HasFile b → image_bytes a ≡ image_bytes b → a ≡ b }
 {}
 
 /// The definitions give the text and the image of the program that puts out 7 and returns 0 as they are by hand.

@@ -30,7 +30,7 @@ pub use decoding::decode;
 pub use encoding::encode;
 pub use image_file::write_image;
 pub use laws::{
-    accepted_is_not_refused, example_of_seven, faultless_answers, one_accepted_program,
+    accepted_is_not_refused, example_of_seven, faultless_answers, one_accepted_program, one_image,
     one_program, one_refusal, one_usage, run_of_seven, usage_is_no_command,
 };
 pub use machine::Machine;

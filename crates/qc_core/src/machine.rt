@@ -1,4 +1,4 @@
-ghost use Rattle.std.specs.Prelude.{◌≡◌, ◌+◌, ◌<◌, ◌≤◌, ◌%◌, ◌^◌, All, IfOk, map, replicate};
+ghost use Rattle.std.specs.Prelude.{◌≡◌, ◌+◌, ◌-◌, ◌++◌, ◌<◌, ◌≤◌, ◌%◌, ◌^◌, All, IfOk, length, map, replicate};
 ghost use Rattle.qc_core.specs.Machine.{IsMachineOf};
 ghost use Rattle.qc_descr.specs.Description.{widths_of, counts_of};
 ghost use Rattle.qc_descr.specs.Loading.{FitsMachine, loaded};
@@ -58,18 +58,44 @@ fn cells(alloc: Global, descr: &Description) -> Result<Cells, AllocError>
     Cells::zeroed(alloc, counts.as_slice())
 }
 
+/// A memory of so many bytes with the code from 0, the data from an address on, and zeros elsewhere.
+fn filled_memory(
+    alloc: Global,
+    code: &[u8],
+    start: usize,
+    initial: &[u8],
+    size: usize,
+) -> Result<Items<u8>, AllocError>
+    requires code { length code.now ≤ start }
+    requires room { start + length initial.now ≤ size }
+    ensures value { IfOk result (λ memory. memory ≡ code.now ++ (replicate (start - length code.now) 0
+        ++ (initial.now ++ replicate (size - start - length initial.now) 0))) }
+    ensures bytes { IfOk result (All (λ byte. byte < 256)) }
+{
+    let mut memory = Vec::with_capacity(alloc, size)?;
+    memory.extend_from_slice(code)?;
+    memory.resize(start, 0)?;
+    memory.extend_from_slice(initial)?;
+    memory.resize(size, 0)?;
+    Ok(Items::from_vec(memory))
+}
+
 /// The memory in which an image is loaded.
 fn loaded_memory(alloc: Global, descr: &Description, image: &Image) -> Result<Items<u8>, AllocError>
     requires layout { HasLayout descr.now }
     requires fits { FitsMachine descr.now image.now }
-    ensures { IfOk result (λ memory. memory ≡ memory_of_image descr.now image.now) }
+    ensures value { IfOk result (λ memory. memory ≡ memory_of_image descr.now image.now) }
+    ensures bytes { IfOk result (All (λ byte. byte < 256)) }
 {
-    let mut memory = Vec::with_capacity(alloc, descr.memory as usize)?;
-    memory.extend_from_slice(image.code.as_slice())?;
-    memory.resize(descr.code_end as usize, 0)?;
-    memory.extend_from_slice(image.initial.as_slice())?;
-    memory.resize(descr.memory as usize, 0)?;
-    Ok(Items::from_vec(memory))
+    let start = descr.code_end as usize;
+    let size = descr.memory as usize;
+    filled_memory(
+        alloc,
+        image.code.as_slice(),
+        start,
+        image.initial.as_slice(),
+        size,
+    )
 }
 
 /// The address after an instruction of so many bytes at `pc`.

@@ -2,8 +2,9 @@ ghost use Rattle.std.specs.Prelude.{◌≡◌, ◌++◌, ◌∷◌, [], ◌≤�
 ghost use Rattle.qc_descr.specs.Valid.{IsValid};
 ghost use Rattle.qc_core.specs.Tin32 as spec;
 
-use qc_descr::{Bit, Coding, Description, Instruction, OperandKind, Space, Text};
+use qc_descr::{Bit, Coding, Description, Instruction, OperandKind, Space};
 use qc_terms::{Dest, Effect, Facts, Order, Place, Rtl, Term};
+use qc_text::Text;
 use qc_words::Width;
 use sqlite_items::Items;
 use std::alloc::{AllocError, Global};

@@ -1,8 +1,10 @@
 //! Files that lie in memory.
-ghost use Rattle.std.specs.Prelude.{◌≡◌, ◌<◌, ◌↔◌, ℕ, Some, IsTrue, IfOk, OnOk, OnErr, IfSome, IsNone, length, string_bytes, option_copied};
+ghost use Rattle.std.specs.Prelude.{◌≡◌, ◌<◌, ◌≤◌, ◌↔◌, ℕ, Some, IsTrue, IfOk, IsErrOf, OnOk, OnErr, IfSome, IsNone, length, string_bytes, option_copied};
 ghost use Rattle.std.specs.FinMap.{get, insert};
-ghost use Rattle.qc_core.specs.Files.{file_limit};
-ghost use Rattle.qc_core.specs.MemoryFiles.{files_from, files_of, calls_of, failing_of, faults_of, NoneBefore, IsFirst};
+ghost use Rattle.qc_core.specs.Calls.{NextFails};
+ghost use Rattle.qc_core.specs.Faults.{next_count};
+ghost use Rattle.qc_core.specs.Files.{content_of, file_limit, OthersStay};
+ghost use Rattle.qc_core.specs.MemoryFiles.{files_from, files_of, calls_of, failing_of, faults_of, FailsToRead, NoneBefore, IsFirst};
 
 use crate::calls::Calls;
 use crate::outside::{ReadEnd, Shelf, StoreEnd, is_too_long};
@@ -93,7 +95,19 @@ impl Shelf for MemShelf {
 
     ghost faults = { faults_of };
 
-    fn read(&mut self, alloc: Global, name: &String) -> Result<Vec<u8>, ReadEnd> {
+    fn read(&mut self, alloc: Global, name: &String) -> Result<Vec<u8>, ReadEnd>
+        ensures limit { IfOk result (λ bytes. length bytes.items ≤ file_limit) }
+        ensures content { IfOk result (λ bytes. get (files_of self.old) (string_bytes name.now) ≡ Some bytes.items) }
+        ensures too_long { IsErrOf result ReadEnd.TooLong →
+            file_limit < length (content_of (files_of self.old) (string_bytes name.now)) }
+        ensures fails { IsErrOf result ReadEnd.Failed ↔ FailsToRead self.old (string_bytes name.now) }
+        ensures failed { IsErrOf result ReadEnd.Failed → faults_of self.new ≡ next_count (faults_of self.old) }
+        ensures kept { (IsErrOf result ReadEnd.Failed → ⊥) → faults_of self.new ≡ faults_of self.old }
+        ensures files { files_of self.new ≡ files_of self.old }
+        ensures failing { failing_of self.new ≡ failing_of self.old }
+        ensures calls { calls_of self.new ≡ next_count (calls_of self.old) }
+        ensures later { faults_of self.old ≤ faults_of self.new }
+    {
         if self.calls.begin_fails() {
             return Err(ReadEnd::Failed);
         }
@@ -110,7 +124,18 @@ impl Shelf for MemShelf {
         }
     }
 
-    fn write(&mut self, alloc: Global, name: &String, bytes: &[u8]) -> Result<(), StoreEnd> {
+    fn write(&mut self, alloc: Global, name: &String, bytes: &[u8]) -> Result<(), StoreEnd>
+        ensures ok { OnOk result (files_of self.new ≡ insert (files_of self.old) (string_bytes name.now) bytes.now) }
+        ensures err { OnErr result (files_of self.new ≡ files_of self.old) }
+        ensures others { OthersStay (string_bytes name.now) (files_of self.old) (files_of self.new) }
+        ensures no_memory { IsErrOf result StoreEnd.NoMemory → files_of self.new ≡ files_of self.old }
+        ensures fails { IsErrOf result StoreEnd.Failed ↔ NextFails (failing_of self.old) (calls_of self.old) }
+        ensures failed { IsErrOf result StoreEnd.Failed → faults_of self.new ≡ next_count (faults_of self.old) }
+        ensures kept { (IsErrOf result StoreEnd.Failed → ⊥) → faults_of self.new ≡ faults_of self.old }
+        ensures failing { failing_of self.new ≡ failing_of self.old }
+        ensures calls { calls_of self.new ≡ next_count (calls_of self.old) }
+        ensures later { faults_of self.old ≤ faults_of self.new }
+    {
         if self.calls.begin_fails() {
             return Err(StoreEnd::Failed);
         }

@@ -1,5 +1,7 @@
 //! An output that lies in memory.
-ghost use Rattle.std.specs.Prelude.{◌≡◌, [], Some};
+ghost use Rattle.std.specs.Prelude.{◌≡◌, ◌≤◌, ◌↔◌, ◌++◌, [], Some, OnOk, OnErr, IsErrOf};
+ghost use Rattle.qc_core.specs.Calls.{NextFails};
+ghost use Rattle.qc_core.specs.Faults.{next_count};
 ghost use Rattle.qc_core.specs.MemoryOut.{calls_of, failing_of, faults_of, written_of};
 
 use crate::calls::Calls;
@@ -41,7 +43,17 @@ impl Out for MemOut {
 
     ghost faults = { faults_of };
 
-    fn put(&mut self, _alloc: Global, piece: &[u8]) -> Result<(), StoreEnd> {
+    fn put(&mut self, _alloc: Global, piece: &[u8]) -> Result<(), StoreEnd>
+        ensures ok { OnOk result (written_of self.new ≡ written_of self.old ++ piece.now) }
+        ensures err { OnErr result (written_of self.new ≡ written_of self.old) }
+        ensures no_memory { IsErrOf result StoreEnd.NoMemory → written_of self.new ≡ written_of self.old }
+        ensures fails { IsErrOf result StoreEnd.Failed ↔ NextFails (failing_of self.old) (calls_of self.old) }
+        ensures failed { IsErrOf result StoreEnd.Failed → faults_of self.new ≡ next_count (faults_of self.old) }
+        ensures kept { (IsErrOf result StoreEnd.Failed → ⊥) → faults_of self.new ≡ faults_of self.old }
+        ensures failing { failing_of self.new ≡ failing_of self.old }
+        ensures calls { calls_of self.new ≡ next_count (calls_of self.old) }
+        ensures later { faults_of self.old ≤ faults_of self.new }
+    {
         if self.calls.begin_fails() {
             return Err(StoreEnd::Failed);
         }

@@ -1,7 +1,7 @@
 ghost use Rattle.std.specs.Prelude.{◌≡◌, ◌≤◌, ◌<◌, ◌++◌, ℕ, List, Option, Some, is_some, length, string_bytes, IfOk, IfSome, IsTrue, OnOk, IsErrOf, ◌↔◌};
 ghost use Rattle.std.specs.Option.{option_map};
 ghost use Rattle.std.specs.FinMap.{insert};
-ghost use Rattle.qc_core.specs.Faults.{Rose};
+ghost use Rattle.qc_core.specs.Faults.{next_count};
 ghost use Rattle.qc_core.specs.Files.{Files, content_of, file_limit, OthersStayTold};
 
 use std::alloc::Global;
@@ -35,8 +35,8 @@ pub enum StoreEnd {
 
 /// Files by name.
 ///
-/// A shelf may tell its files, which are then a map from names to contents, and counts its faults. The count never
-/// falls, and at its last value, that of 64 bits, it may stand still.
+/// A shelf may tell its files, which are then a map from names to contents, and counts its faults: each call that fails
+/// raises the count by one, and no other call changes it. At its last value, that of 64 bits, it stands still.
 pub trait Shelf {
     /// The files, where they are told.
     ghost files: { Self → Option Files };
@@ -49,16 +49,18 @@ pub trait Shelf {
         ensures limit { IfOk result (λ bytes. length bytes.items ≤ file_limit) }
         ensures content { IfOk result (λ bytes. IfSome (files self.old) (λ f. bytes.items ≡ content_of f (string_bytes name.now))) }
         ensures too_long { IsErrOf result ReadEnd.TooLong → IfSome (files self.old) (λ f. file_limit < length (content_of f (string_bytes name.now))) }
-        ensures failed { IsErrOf result ReadEnd.Failed → Rose (faults self.old) (faults self.new) }
+        ensures failed { IsErrOf result ReadEnd.Failed → faults self.new ≡ next_count (faults self.old) }
         ensures files { files self.new ≡ files self.old }
+        ensures kept { (IsErrOf result ReadEnd.Failed → ⊥) → faults self.new ≡ faults self.old }
         ensures later { faults self.old ≤ faults self.new };
 
     /// Binds the name to the bytes.
     fn write(&mut self, alloc: Global, name: &String, bytes: &[u8]) -> Result<(), StoreEnd>
         ensures ok { OnOk result (files self.new ≡ option_map (λ f. insert f (string_bytes name.now) bytes.now) (files self.old)) }
-        ensures failed { IsErrOf result StoreEnd.Failed → Rose (faults self.old) (faults self.new) }
+        ensures failed { IsErrOf result StoreEnd.Failed → faults self.new ≡ next_count (faults self.old) }
         ensures others { OthersStayTold (string_bytes name.now) (files self.old) (files self.new) }
         ensures no_memory { IsErrOf result StoreEnd.NoMemory → files self.new ≡ files self.old }
+        ensures kept { (IsErrOf result StoreEnd.Failed → ⊥) → faults self.new ≡ faults self.old }
         ensures later { faults self.old ≤ faults self.new };
 }
 
@@ -75,8 +77,9 @@ pub trait Out {
     /// Puts the piece after the bytes so far. Where this fails, a front of the piece may have been put.
     fn put(&mut self, alloc: Global, piece: &[u8]) -> Result<(), StoreEnd>
         ensures ok { OnOk result (written self.new ≡ option_map (λ w. w ++ piece.now) (written self.old)) }
-        ensures failed { IsErrOf result StoreEnd.Failed → Rose (faults self.old) (faults self.new) }
+        ensures failed { IsErrOf result StoreEnd.Failed → faults self.new ≡ next_count (faults self.old) }
         ensures front { (part more : List ℕ) × (piece.now ≡ part ++ more) × (written self.new ≡ option_map (λ w. w ++ part) (written self.old)) }
         ensures no_memory { IsErrOf result StoreEnd.NoMemory → written self.new ≡ written self.old }
+        ensures kept { (IsErrOf result StoreEnd.Failed → ⊥) → faults self.new ≡ faults self.old }
         ensures later { faults self.old ≤ faults self.new };
 }

@@ -2,7 +2,7 @@
 use Rattle.std.proofs.Common.{◌≡◌, ℕ, zero, suc, [], ◌++◌, Option, Some, None, refl, sym, ◌∙◌, ap, subst, inl, inr}
 use Rattle.qc_terms.specs.declared.state.Event.{Event}
 use Rattle.qc_terms.specs.declared.state.State.{State}
-use Rattle.qc_terms.specs.Effects.{Outcome, outcome_of, trapped}
+use Rattle.qc_terms.specs.Effects.{Outcome, outcome_of, outcome_of_trap}
 use Rattle.qc_terms.specs.Observation.{words_of}
 use Rattle.qc_descr.specs.declared.description.Description.{Description}
 use Rattle.qc_descr.specs.declared.description.Instruction.{Instruction}
@@ -42,7 +42,7 @@ some_from None d s =
             outcome_of at.encodes.instruction.rtl found.1 (address_after s found.2) s,
             inl (record { number = found.0; operands = found.1; bytes = found.2; stands = at; is = refl }),
           )
-      | inr none ↦ (trapped 4 s, inr (none, refl))
+      | inr none ↦ (outcome_of_trap 4 s, inr (none, refl))
     ]
 
 pub some_outcome : (d : Description) (s : State) → (o : Outcome) × Steps d s o

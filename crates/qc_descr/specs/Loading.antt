@@ -1,17 +1,21 @@
 -- The state in which the run of an image begins.
-use Rattle.std.specs.Prelude.{ℕ, ◌≡◌, ◌≤◌, ◌-◌, ◌≢◌, List, ◌++◌, length, map, replicate, None, Some, slice_get}
+use Rattle.std.specs.Prelude.{ℕ, ◌≡◌, ◌≤◌, ◌-◌, ◌≢◌, List, ◌++◌, length, map, replicate, min, None, Some, slice_get}
 use Rattle.qc_terms.specs.declared.state.State.{State}
 use Rattle.qc_terms.specs.declared.image.Image.{Image}
 use Rattle.qc_descr.specs.declared.description.Description.{Description}
 use Rattle.qc_descr.specs.Description.{widths_of, counts_of}
 
--- The image is for the machine's word and byte order, its code and its data fit into their regions, and its data
--- doesn't end in a zero byte.
+-- the most bytes of data that an image may have
+unfoldable pub data_limit : ℕ
+data_limit = 3000000
+
+-- The image is for the machine's word and byte order, its code and its data fit into their regions, the data within the
+-- limit too, and its data doesn't end in a zero byte.
 pub record FitsMachine (d : Description) (image : Image) : Type 0 where
   pub word : image.word ≡ d.facts.word
   pub order : image.order ≡ d.facts.order
   pub code : length image.code ≤ d.code_end
-  pub room : length image.initial ≤ d.data_end - d.code_end
+  pub room : length image.initial ≤ min (d.data_end - d.code_end) data_limit
   pub last : slice_get image.initial (length image.initial - 1) ≢ Some 0
 
 -- the code from 0, the data from the data region's start, and zero bytes elsewhere

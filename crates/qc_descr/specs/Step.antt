@@ -2,7 +2,7 @@
 use Rattle.std.specs.Prelude.{ℕ, zero, suc, ◌≡◌, ◌+◌, ◌%◌, ◌^◌, ◌⊎◌, List, [], ◌++◌, length, drop, Option, None, Some}
 use Rattle.qc_terms.specs.declared.state.Event.{Event}
 use Rattle.qc_terms.specs.declared.state.State.{State}
-use Rattle.qc_terms.specs.Effects.{Outcome, outcome_of, trapped}
+use Rattle.qc_terms.specs.Effects.{Outcome, outcome_of, outcome_of_trap}
 use Rattle.qc_terms.specs.Observation.{Observation, words_of}
 use Rattle.qc_descr.specs.declared.description.Description.{Description}
 use Rattle.qc_descr.specs.Encoding.{Encodes}
@@ -39,7 +39,7 @@ IsUndecodable d memory at = (number : ℕ) (operands bytes : List ℕ) → Encod
 -- a step of a machine that has ended with an event, or goes on
 abbrev pub StepsFrom : Option Event → Description → State → Outcome → Type 0
 StepsFrom (Some event) d s o = o ≡ record { state = s; event = event }
-StepsFrom None d s o = StepsBy d s o ⊎ (IsUndecodable d s.memory s.pc × (o ≡ trapped 4 s))
+StepsFrom None d s o = StepsBy d s o ⊎ (IsUndecodable d s.memory s.pc × (o ≡ outcome_of_trap 4 s))
 
 -- One step: a machine that has ended stays, with the event of its end. One that goes on executes the instance that
 -- it stands at, or traps with code 4 where there is none.

@@ -1,14 +1,16 @@
 -- Valid descriptions.
-use Rattle.std.specs.Prelude.{ℕ, zero, suc, ◌≡◌, ◌≢◌, ◌<◌, ◌≤◌, ◌+◌, ◌/◌, ◌%◌, ◌^◌, ◌⊎◌, List, [], ◌∷◌, length, sum, map, count_by, slice_get, slice_index, All, Contains, IsTrue, Bool, true, false, ◌&&◌, ◌||◌, if◌then◌else◌, nat_eq, nat_lt, Some, IfSome}
+use Rattle.std.specs.Prelude.{ℕ, zero, suc, ◌≡◌, ◌≢◌, ◌<◌, ◌≤◌, ◌+◌, ◌/◌, ◌%◌, ◌^◌, ◌⊎◌, List, [], ◌∷◌, length, sum, map, count_by, slice_get, slice_index, All, Contains, IsTrue, Bool, true, false, ◌&&◌, ◌||◌, nat_eq, nat_lt, Option, None, Some, IfSome}
 use Rattle.std.specs.List.{list_all}
 use Rattle.qc_terms.specs.declared.state.Order.{Order}
 use Rattle.qc_terms.specs.declared.term.Dest.{Dest}
 use Rattle.qc_terms.specs.declared.term.Dest.TheVariants as dest
 use Rattle.qc_terms.specs.declared.term.Effect.{Effect}
 use Rattle.qc_terms.specs.declared.term.Place.{Place}
+use Rattle.qc_terms.specs.declared.term.Rtl.{Rtl}
+use Rattle.qc_terms.specs.declared.term.Term.{Term}
 use Rattle.qc_terms.specs.declared.term.Place.TheVariants as place
-use Rattle.qc_terms.specs.Tree.{Tree, Number, Unary, Binary, Register, Immediate, tree_of}
-use Rattle.qc_terms.specs.Typing.{IsTypedRtl}
+use Rattle.qc_terms.specs.Tree.{Tree, Number, Unary, Binary, Register, Immediate, Load, NextInput, AddressAfter, tree_of, nodes_of}
+use Rattle.qc_terms.specs.Typing.{HasOneEvent, IsTypedRtl}
 use Rattle.qc_descr.specs.declared.coding.Bit.{Bit}
 use Rattle.qc_descr.specs.declared.coding.Bit.TheVariants.{Fixed, Piece}
 use Rattle.qc_descr.specs.declared.coding.Coding.{Coding}
@@ -16,6 +18,7 @@ use Rattle.qc_descr.specs.declared.description.Description.{Description}
 use Rattle.qc_descr.specs.declared.description.Instruction.{Instruction}
 use Rattle.qc_descr.specs.declared.description.OperandKind.{OperandKind}
 use Rattle.qc_descr.specs.declared.description.OperandKind.TheVariants as kind
+use Rattle.qc_descr.specs.declared.description.Space.{Space}
 use Rattle.qc_descr.specs.Coding.{memory_bytes, bytes_differ}
 use Rattle.qc_descr.specs.Description.{widths_of, counts_of, context_of_description, kinds_of, size_of}
 
@@ -52,15 +55,29 @@ pub record HasLayout (d : Description) : Type 0 where
   pub free_frame : IsAllocatable d d.frame → ⊥
   pub free_link : IsAllocatable d d.link → ⊥
   pub free_zero : IfSome d.facts.zero (λ z. IsAllocatable d z → ⊥)
-  pub no_flags : slice_index (map (λ s. if s.flags then 1 else 0) d.spaces) d.allocatable ≡ 0
+  pub no_flags : (s : Space) → slice_get d.spaces d.allocatable ≡ Some s → s.flags ≡ false
   pub flags : All (λ s. s.flags ≡ true → s.width ≡ 1) d.spaces
+
+-- the number of the nodes of an instruction's terms
+abbrev pub nodes_of_guard : Option Term → ℕ
+nodes_of_guard None = 0
+nodes_of_guard (Some guard) = nodes_of (tree_of guard)
+
+abbrev pub nodes_of_dest : Dest → ℕ
+nodes_of_dest (dest.Mem width address) = nodes_of (tree_of address)
+nodes_of_dest _ = 0
+
+abbrev pub nodes_of_rtl : Rtl → ℕ
+nodes_of_rtl rtl = sum (map (λ e. nodes_of_guard e.guard + (nodes_of_dest e.to + nodes_of (tree_of e.value))) rtl.effects)
 
 -- how many things of each sort there may be
 pub record IsWithinLimits (d : Description) : Type 0 where
   pub instructions : length d.instructions ≤ 256
   pub operands : All (λ i. length i.operands ≤ 8) d.instructions
   pub spaces : length d.spaces ≤ 8
-  pub cells : All (λ s. (1 ≤ s.cells) × (s.cells ≤ 64)) d.spaces
+  pub cells : All (λ s. s.cells ≤ 64) d.spaces
+  pub effects : All (λ i. length i.rtl.effects ≤ 16) d.instructions
+  pub nodes : All (λ i. nodes_of_rtl i.rtl ≤ 4096) d.instructions
 
 -- an operand that is named as a register or an immediate is one, of this space or width
 abbrev pub NamesPlace : List OperandKind → Place → Type 0
@@ -73,11 +90,14 @@ NamesOperands kinds (Unary op arg) = NamesOperands kinds arg
 NamesOperands kinds (Binary op left right) = NamesOperands kinds left × NamesOperands kinds right
 NamesOperands kinds (Register place width) = NamesPlace kinds place
 NamesOperands kinds (Immediate operand width) = slice_get kinds operand ≡ Some (kind.Imm width)
+NamesOperands kinds (Load width address) = NamesOperands kinds address
+NamesOperands kinds (NextInput width) = Unit {0}
+NamesOperands kinds (AddressAfter width) = Unit {0}
 
 abbrev pub NamesDest : List OperandKind → Dest → Type 0
 NamesDest kinds (dest.Reg place) = NamesPlace kinds place
-NamesDest kinds dest.Out = Unit {0}
-NamesDest kinds dest.Halt = Unit {0}
+NamesDest kinds (dest.Mem width address) = NamesOperands kinds (tree_of address)
+NamesDest kinds _ = Unit {0}
 
 pub record EffectNames (kinds : List OperandKind) (e : Effect) : Type 0 where
   pub guard : IfSome e.guard (λ g. NamesOperands kinds (tree_of g))
@@ -131,17 +151,22 @@ pub record IsCovered (d : Description) (i : Instruction) : Type 0 where
   pub within : IsTrue (list_all (is_within sizes) i.coding.bits)
   pub once : IsTrue (stands_once sizes i.coding.bits)
 
+-- The register transfer list is well typed, shows one thing at most and names the operands as what they are; and the
+-- coding leaves no bit open.
 pub record IsValidInstruction (d : Description) (i : Instruction) : Type 0 where
   pub typed : IsTypedRtl (context_of_description d) i.rtl
+  pub event : HasOneEvent i.rtl
   pub names : All (EffectNames (kinds_of i)) i.rtl.effects
   pub covered : IsCovered d i
 
--- any two codings differ in a bit that both fix, within the shorter one's length, by their places in memory
+-- For each two instructions some bit, by its place in memory and below both lengths, is constant in both and not equal,
+-- so that no bytes begin with both.
 abbrev pub all_differ : Order → List Coding → Bool
 all_differ order [] = true
 all_differ order (c ∷ cs) =
     list_all (λ other. bytes_differ (memory_bytes order c) (memory_bytes order other)) cs && all_differ order cs
 
+-- a description that the machine and the compiler may stand on
 pub record IsValid (d : Description) : Type 0 where
   pub layout : HasLayout d
   pub limits : IsWithinLimits d

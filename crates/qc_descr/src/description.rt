@@ -1,6 +1,6 @@
 use crate::coding::Coding;
-use crate::text::Text;
 use qc_terms::{Facts, Rtl};
+use qc_text::Text;
 use qc_words::Width;
 use smallvec::SmallVec;
 use sqlite_items::Items;

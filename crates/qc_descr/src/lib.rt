@@ -7,9 +7,7 @@
 mod coding;
 mod description;
 mod laws;
-mod text;
 
 pub use coding::{Bit, Coding};
 pub use description::{Description, Instance, Instruction, OperandKind, Operands, Space};
 pub use laws::{one_instance, one_outcome, one_run, pieces_stand, some_outcome, some_run};
-pub use text::Text;

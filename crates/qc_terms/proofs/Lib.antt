@@ -1,1 +1,4 @@
+pub mod Bytes
 pub mod Lengths
+pub mod Typed
+pub mod Widths

@@ -1,5 +1,7 @@
 pub mod Cells
+pub mod Clashes
 pub mod Effects
+pub mod Memory
 pub mod Observation
 pub mod Pending
 pub mod State

@@ -18,10 +18,11 @@ is_zero_cell None space index = false
 is_zero_cell (Some zero) space index = nat_eq zero.0 space && nat_eq zero.1 index
 
 -- There is one width per space, and each cell has a word of its space's width. The program counter and the words
--- of the input are words of the machine, and no more of them were taken than there are.
+-- of the input are words of the machine, and no more of them were taken than there are. Memory holds bytes.
 pub record IsState (s : State) : Type 0 where
   pub spaces : length s.cells ≡ length s.widths
   pub words : (space index : ℕ) → HasCell s.cells space index → cell_of s.cells space index < 2 ^ slice_index s.widths space
+  pub memory : All (λ byte. byte < 256) s.memory
   pub pc : s.pc < 2 ^ s.facts.word
   pub input : All (λ word. word < 2 ^ s.facts.word) s.input
   pub taken : s.taken ≤ length s.input

@@ -1,5 +1,5 @@
 -- Terms and register transfer lists that are well typed for a machine's word and spaces.
-use Rattle.std.specs.Prelude.{ℕ, ◌≡◌, ◌<◌, ◌^◌, List, length, slice_index, Bool, true, false, All, IfSome, count_by, ◌≤◌}
+use Rattle.std.specs.Prelude.{ℕ, ◌≡◌, ◌<◌, ◌^◌, List, length, slice_index, Bool, true, false, All, IfSome, count_by, ◌≤◌, ◌⊎◌}
 use Rattle.qc_words.specs.Operators.{Accepts, is_unary}
 use Rattle.qc_terms.specs.declared.term.Place.{Place}
 use Rattle.qc_terms.specs.declared.term.Place.TheVariants.{Cell, Operand}
@@ -7,7 +7,7 @@ use Rattle.qc_terms.specs.declared.term.Dest.{Dest}
 use Rattle.qc_terms.specs.declared.term.Dest.TheVariants as dest
 use Rattle.qc_terms.specs.declared.term.Effect.{Effect}
 use Rattle.qc_terms.specs.declared.term.Rtl.{Rtl}
-use Rattle.qc_terms.specs.Tree.{Tree, Number, Unary, Binary, Register, Immediate, tree_of, width_of}
+use Rattle.qc_terms.specs.Tree.{Tree, Number, Unary, Binary, Register, Immediate, Load, NextInput, AddressAfter, tree_of, width_of}
 use Rattle.qc_terms.specs.State.{Context}
 
 -- a register of one of the spaces, with that space's width; a cell that is named by its number is in range
@@ -17,8 +17,18 @@ IsRegister context (Cell space index) width =
 IsRegister context (Operand space number) width =
     (space < length context.widths) × (width ≡ slice_index context.widths space)
 
+-- the widths of memory accesses
+abbrev pub IsAccessWidth : ℕ → Type 0
+IsAccessWidth width = (width ≡ 8) ⊎ ((width ≡ 16) ⊎ ((width ≡ 32) ⊎ (width ≡ 64)))
+
+-- a memory access of one of these widths, at most the word's, by an address that has the word's width
+pub record IsAccess (context : Context) (size pointer : ℕ) : Type 0 where
+  pub width : IsAccessWidth size
+  pub word : size ≤ context.word
+  pub address : pointer ≡ context.word
+
 -- Each number fits its width, an operator's operands have one width that it accepts, and each register is one of
--- the spaces'.
+-- the spaces'. Words of the input and the address after the instruction have the word's width.
 abbrev pub IsTyped : Context → Tree → Type 0
 IsTyped context (Number value width) = value < 2 ^ width
 IsTyped context (Unary op arg) = (is_unary op ≡ true) × Accepts op (width_of arg) × IsTyped context arg
@@ -26,6 +36,9 @@ IsTyped context (Binary op left right) =
     (is_unary op ≡ false) × Accepts op (width_of left) × (width_of left ≡ width_of right) × IsTyped context left × IsTyped context right
 IsTyped context (Register place width) = IsRegister context place width
 IsTyped context (Immediate operand width) = Unit {0}
+IsTyped context (Load width address) = IsAccess context width (width_of address) × IsTyped context address
+IsTyped context (NextInput width) = width ≡ context.word
+IsTyped context (AddressAfter width) = width ≡ context.word
 
 -- the operand that a place names, if it names one, is there
 abbrev pub HasOperand : List ℕ → Place → Type 0
@@ -47,18 +60,19 @@ OperandsFit context operands (Binary op left right) =
 OperandsFit context operands (Register place width) = PlaceFits context operands place
 OperandsFit context operands (Immediate operand width) =
     (operand < length operands) × (slice_index operands operand < 2 ^ width)
+OperandsFit context operands (Load width address) = OperandsFit context operands address
+OperandsFit context operands (NextInput width) = Unit {0}
+OperandsFit context operands (AddressAfter width) = Unit {0}
 
--- a fact of the place that a destination is, if it is one
-abbrev pub IfPlace : Dest → (Place → Type 0) → Type 0
-IfPlace (dest.Reg place) P = P place
-IfPlace dest.Out P = Unit {0}
-IfPlace dest.Halt P = Unit {0}
-
--- a destination takes words of this width
+-- a destination takes words of this width; the code of a trap has 8 bits
 abbrev pub TakesWidth : Context → Dest → ℕ → Type 0
 TakesWidth context (dest.Reg place) width = IsRegister context place width
+TakesWidth context (dest.Mem size address) width =
+    (width ≡ size) × IsAccess context size (width_of (tree_of address)) × IsTyped context (tree_of address)
+TakesWidth context dest.Pc width = width ≡ context.word
 TakesWidth context dest.Out width = width ≡ context.word
 TakesWidth context dest.Halt width = width ≡ context.word
+TakesWidth context dest.Trap width = width ≡ 8
 
 -- a guard is a term of width 1, and the value has the destination's width
 pub record IsTypedEffect (context : Context) (e : Effect) : Type 0 where
@@ -66,22 +80,29 @@ pub record IsTypedEffect (context : Context) (e : Effect) : Type 0 where
   pub value : IsTyped context (tree_of e.value)
   pub to : TakesWidth context e.to (width_of (tree_of e.value))
 
--- an output or an end
+-- a destination that shows something: an output, an end or a trap
 abbrev pub is_event : Dest → Bool
 is_event (dest.Reg place) = false
+is_event (dest.Mem size address) = false
+is_event dest.Pc = false
 is_event dest.Out = true
 is_event dest.Halt = true
+is_event dest.Trap = true
 
--- Each effect is well typed, at most one of them is an output or an end, and there are at most 16.
-pub record IsTypedRtl (context : Context) (rtl : Rtl) : Type 0 where
-  pub effects : All (IsTypedEffect context) rtl.effects
-  pub events : count_by (λ e. is_event e.to) rtl.effects ≤ 1
-  pub few : length rtl.effects ≤ 16
+abbrev pub IsTypedRtl : Context → Rtl → Type 0
+IsTypedRtl context rtl = All (IsTypedEffect context) rtl.effects
+
+-- at most one effect is an output, an end or a trap
+abbrev pub HasOneEvent : Rtl → Type 0
+HasOneEvent rtl = count_by (λ e. is_event e.to) rtl.effects ≤ 1
 
 abbrev pub DestFits : Context → List ℕ → Dest → Type 0
 DestFits context operands (dest.Reg place) = PlaceFits context operands place
+DestFits context operands (dest.Mem size address) = OperandsFit context operands (tree_of address)
+DestFits context operands dest.Pc = Unit {0}
 DestFits context operands dest.Out = Unit {0}
 DestFits context operands dest.Halt = Unit {0}
+DestFits context operands dest.Trap = Unit {0}
 
 pub record EffectFits (context : Context) (operands : List ℕ) (e : Effect) : Type 0 where
   pub guard : IfSome e.guard (λ g. OperandsFit context operands (tree_of g))

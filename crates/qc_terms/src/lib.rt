@@ -8,16 +8,21 @@ mod apply;
 mod cells;
 mod evaluate;
 mod image;
+mod laws;
+mod memory;
 mod pending;
 mod state;
 mod term;
+mod typing;
 
 pub use apply::apply_rtl;
 pub use cells::Cells;
 pub use evaluate::value;
 pub use image::Image;
+pub use laws::{stored_words_are_loaded, typed_terms_have_no_clash};
 pub use state::{Event, Facts, Order, State};
 pub use term::{Dest, Effect, Place, Rtl, Term};
+pub use typing::{WidthClash, width_of};
 
 #[cfg(test)]
 mod tests;

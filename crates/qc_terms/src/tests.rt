@@ -5,7 +5,12 @@ use super::*;
 use qc_words::{Op, Width};
 use sqlite_items::{Boxed, Items};
 use std::alloc::{AllocError, Global};
+use std::process::Abort;
 use std::test::Fail;
+
+mod effects;
+mod memory;
+mod widths;
 
 /// A machine of 32-bit words with one space of two cells.
 fn machine(alloc: Global, word: Width, zero: Option<(u32, u32)>) -> Result<State, AllocError>

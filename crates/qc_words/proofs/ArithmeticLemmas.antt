@@ -166,7 +166,7 @@ result_of-Sub-Add w a b left right =
 by_zero : (unit quotient a : ℕ) → a < unit → ((quotient * 0) % unit + a) % unit ≡ a
 by_zero unit quotient a below = rw (mul-zero quotient, zero-mod unit, zero-add a) (mod-eq_of_lt below)
 
-positive_test : (b : ℕ) → (suc b == 0) ≡ false
+pub positive_test : (b : ℕ) → (suc b == 0) ≡ false
 positive_test b = grind arith
 
 pub dividend_of-unsigned : (w a b : ℕ) → a < 2 ^ w →

@@ -100,7 +100,7 @@ complement_split k n a within below =
     ∙ ap (λ m. ((2 ^ (n - k) - 1 - a / 2 ^ k) + a / 2 ^ k + 1) * 2 ^ k - 1 - m) self
     ∙ complement_parts (2 ^ (n - k) - 1 - a / 2 ^ k) (a / 2 ^ k) (a % 2 ^ k) (2 ^ k) (mod-lt a (pow_pos k))
 
-mod-mod_narrower : (w n m : ℕ) → w ≤ n → m % 2 ^ n % 2 ^ w ≡ m % 2 ^ w
+pub mod-mod_narrower : (w n m : ℕ) → w ≤ n → m % 2 ^ n % 2 ^ w ≡ m % 2 ^ w
 mod-mod_narrower w n m wider =
     let divides : 2 ^ w ∣ 2 ^ n = subst (λ (p : ℕ). 2 ^ w ∣ p) (sym (pow_split w n wider)) (dvd-mul_left (2 ^ w) (2 ^ (n - w))) in
     mod-mod_of_dvd (2 ^ w) m divides
@@ -157,7 +157,7 @@ pub bit_at-div : (m s k : ℕ) → bit_at (m / 2 ^ s) k ≡ bit_at m (s + k)
 bit_at-div m s k = ap (λ v. v % 2) (shr-shr m s k)
 
 -- the sign bit of a word that stands for a negative number
-sign_bit-high : (w a : ℕ) → 1 ≤ w → 2 ^ (w - 1) ≤ a → a < 2 ^ w → bit_at a (w - 1) ≡ 1
+pub sign_bit-high : (w a : ℕ) → 1 ≤ w → 2 ^ (w - 1) ≤ a → a < 2 ^ w → bit_at a (w - 1) ≡ 1
 sign_bit-high w a positive high below =
     let halves : 2 ^ w ≡ 2 * 2 ^ (w - 1) = twice_half w positive in
     let lower : 1 ≤ a / 2 ^ (w - 1) = le-div 1 a (2 ^ (w - 1)) (pow_pos (w - 1)) (omega arith) in

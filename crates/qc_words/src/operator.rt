@@ -254,7 +254,9 @@ pub fn accepts(op: Op, w: Width) -> bool
     }
 }
 
-/// The operator's value at two words of the width `w`. Operators of one operand ignore `b`.
+/// The operator's value at two words of the width `w`. Operators of one operand ignore `b`. It is inlined, so
+/// that a constant operator leaves straight code.
+#[inline(always)]
 pub fn apply(op: Op, w: Width, a: u64, b: u64) -> u64
     requires left { a < 2 ^ w }
     requires right { b < 2 ^ w }

@@ -1,4 +1,5 @@
-ghost use Rattle.std.specs.Prelude.{◌≡◌, ◌<◌, ◌^◌, ◌⊎◌, ◌↔◌, IsTrue, IsNone, IfSome};
+ghost use Rattle.std.specs.Option.{SomeIff};
+ghost use Rattle.std.specs.Prelude.{◌≡◌, ◌<◌, ◌^◌, ◌↔◌, IsTrue};
 
 use std::marker::Model;
 
@@ -27,8 +28,7 @@ impl Width {
 
     /// The width of `n` bits, where there is one.
     pub fn new(n: u8) -> Option<Width>
-        ensures some { IfSome result (λ w. (w ≡ n) × IsWidth n) }
-        ensures none { IsNone result → (n ≡ 0) ⊎ (64 < n) }
+        ensures { SomeIff result (IsWidth n) n }
     {
         if n == 0 || n > 64 {
             None

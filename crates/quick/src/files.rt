@@ -1,8 +1,8 @@
 //! The files of the system.
-ghost use Rattle.std.specs.Prelude.{◌≡◌, ◌<◌, ◌≤◌, ◌++◌, ◌↔◌, ℕ, List, IsTrue, IfOk, IfSome, IsErrOf, OnOk, None, length};
+ghost use Rattle.std.specs.Prelude.{◌≡◌, ◌≢◌, ◌<◌, ◌≤◌, ◌++◌, ℕ, List, [], IfErr, IfOk, IfSome, IsErr, IsErrOf, OnOk, None, length, if◌then◌else◌};
 ghost use Rattle.std.specs.Io.KnownBytes.{Appends};
 ghost use Rattle.qc_core.specs.Files.{file_limit};
-ghost use Rattle.qc_core.specs.Faults.{Rose};
+ghost use Rattle.qc_core.specs.Faults.{next_count};
 
 use qc_core::{ReadEnd, Shelf, StoreEnd, is_too_long};
 use std::alloc::Global;
@@ -32,10 +32,13 @@ pub(crate) fn read_to_limit<F: Read>(alloc: Global, file: &mut F) -> Result<Vec<
     Err(ReadEnd::TooLong)
 }
 
-/// Writes the bytes. A write that takes none of them fails, and then a front of them may have been written.
+/// Writes the bytes. A write that takes none of them fails. After a failure a front of them may have been written, but
+/// not all.
 pub(crate) fn write_whole<W: Write>(writer: &mut W, bytes: &[u8]) -> Result<(), StoreEnd>
     ensures whole { OnOk result (Appends (W.contents writer.old) (W.contents writer.new) bytes.now) }
-    ensures front { (part more : List ℕ) × (bytes.now ≡ part ++ more) × Appends (W.contents writer.old) (W.contents writer.new) part }
+    ensures front { (part more : List ℕ) × (bytes.now ≡ part ++ more)
+        × Appends (W.contents writer.old) (W.contents writer.new) part × (IsErr result → more ≢ []) }
+    ensures err { IfErr result (λ end. end ≡ StoreEnd.Failed) }
 {
     let mut rest = bytes;
     while !rest.is_empty() {
@@ -50,7 +53,7 @@ pub(crate) fn write_whole<W: Write>(writer: &mut W, bytes: &[u8]) -> Result<(), 
 
 /// One more, where a call failed. The count stands still at its last value.
 pub(crate) fn counted(faults: u64, failed: bool) -> u64
-    ensures rose { IsTrue failed → Rose faults result }
+    ensures value { result ≡ (if failed then next_count faults else faults) }
     ensures later { faults ≤ result }
 {
     if failed {
@@ -94,7 +97,7 @@ impl<'a, R: Files> Shelf for FileShelf<'a, R> {
             Ok(mut file) => write_whole(&mut file, bytes),
             Err(_) => Err(StoreEnd::Failed),
         };
-        self.faults = counted(self.faults, written.is_err());
+        self.faults = counted(self.faults, matches!(written, Err(StoreEnd::Failed)));
         written
     }
 }

@@ -28,7 +28,7 @@ impl<'a, P: Print> Out for StandardOut<'a, P> {
 
     fn put(&mut self, _alloc: Global, piece: &[u8]) -> Result<(), StoreEnd> {
         let put = write_whole(&mut io::writer(self.rt), piece);
-        self.faults = counted(self.faults, put.is_err());
+        self.faults = counted(self.faults, matches!(put, Err(StoreEnd::Failed)));
         put
     }
 }

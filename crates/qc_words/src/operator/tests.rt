@@ -15,6 +15,10 @@ fn expect_results(rt: &impl Abort, bits: u8, rows: &[(Op, u64, u64, u64)]) {
     }
 }
 
+fn slice_from(low: u8, to: Width) -> Op {
+    Op::Slice { low, to }
+}
+
 #[test]
 fn arithmetic(rt: HostRuntime) {
     let rows = [
@@ -105,16 +109,8 @@ fn extensions_and_slices(rt: HostRuntime) {
     ];
     expect_results(&rt, 8, &rows);
     let slices = [
-        (Op::Slice { low: 4, to: eight }, 0xABCD, 9, 0xBC),
-        (
-            Op::Slice {
-                low: 0,
-                to: sixteen,
-            },
-            0xABCD,
-            9,
-            0xABCD,
-        ),
+        (slice_from(4, eight), 0xABCD, 9, 0xBC),
+        (slice_from(0, sixteen), 0xABCD, 9, 0xABCD),
     ];
     expect_results(&rt, 16, &slices);
 
@@ -204,16 +200,265 @@ fn sixty_four_bits_of_the_rest(rt: HostRuntime) {
         (Op::Geu, ONES, 0, 1),
         (Op::Zx { to: whole }, ONES, 0, ONES),
         (Op::Sx { to: whole }, LEAST, 0, LEAST),
-        (Op::Slice { low: 0, to: whole }, ONES, 0, ONES),
-        (
-            Op::Slice {
-                low: 63,
-                to: width(&rt, 1),
-            },
-            LEAST,
-            0,
-            1,
-        ),
+        (slice_from(0, whole), ONES, 0, ONES),
+        (slice_from(63, width(&rt, 1)), LEAST, 0, 1),
     ];
     expect_results(&rt, 64, &rows);
+}
+
+#[test]
+fn five_bits_of_arithmetic(rt: HostRuntime) {
+    // The word 16 is the signed number -16, and 31 is -1.
+    let rows = [
+        (Op::Add, 31, 1, 0),
+        (Op::Add, 16, 16, 0),
+        (Op::Sub, 0, 1, 31),
+        (Op::Sub, 16, 1, 15),
+        (Op::Mul, 31, 31, 1),
+        (Op::Mul, 16, 2, 0),
+        (Op::Divu, 31, 4, 7),
+        (Op::Divu, 9, 0, 31),
+        (Op::Modu, 31, 4, 3),
+        (Op::Modu, 9, 0, 9),
+        (Op::Quot, 16, 31, 16),
+        (Op::Quot, 25, 2, 29),
+        (Op::Quot, 7, 30, 29),
+        (Op::Quot, 9, 0, 31),
+        (Op::Rem, 16, 31, 0),
+        (Op::Rem, 25, 2, 31),
+        (Op::Rem, 7, 30, 1),
+        (Op::Rem, 9, 0, 9),
+        (Op::Com, 16, 9, 15),
+        (Op::Neg, 16, 9, 16),
+        (Op::Neg, 1, 9, 31),
+    ];
+    expect_results(&rt, 5, &rows);
+}
+
+#[test]
+fn five_bits_of_the_rest(rt: HostRuntime) {
+    let rows = [
+        (Op::And, 12, 10, 8),
+        (Op::Or, 12, 10, 14),
+        (Op::Xor, 12, 10, 6),
+        (Op::Xor, 31, 16, 15),
+        (Op::Shl, 3, 4, 16),
+        (Op::Shl, 3, 5, 3),
+        (Op::Shl, 3, 6, 6),
+        (Op::Shrl, 16, 4, 1),
+        (Op::Shrl, 16, 5, 16),
+        (Op::Shra, 16, 4, 31),
+        (Op::Shra, 16, 5, 16),
+        (Op::Shra, 16, 6, 24),
+        (Op::Shra, 15, 1, 7),
+        (Op::Eq, 31, 31, 1),
+        (Op::Eq, 31, 16, 0),
+        (Op::Ne, 31, 16, 1),
+        (Op::Ne, 31, 31, 0),
+        (Op::Lt, 16, 15, 1),
+        (Op::Lt, 15, 16, 0),
+        (Op::Ge, 16, 15, 0),
+        (Op::Ge, 16, 16, 1),
+        (Op::Ltu, 16, 15, 0),
+        (Op::Ltu, 15, 16, 1),
+        (Op::Geu, 16, 15, 1),
+        (Op::Geu, 15, 16, 0),
+    ];
+    expect_results(&rt, 5, &rows);
+}
+
+#[test]
+fn extensions_and_slices_of_five_bits(rt: HostRuntime) {
+    let one = width(&rt, 1);
+    let five = width(&rt, 5);
+    let sixty_three = width(&rt, 63);
+    let rows = [
+        (Op::Zx { to: sixty_three }, 31, 0, 31),
+        (Op::Sx { to: sixty_three }, 16, 0, 0x7FFF_FFFF_FFFF_FFF0),
+        (Op::Sx { to: sixty_three }, 15, 0, 15),
+        (Op::Sx { to: five }, 16, 0, 16),
+        (slice_from(0, one), 19, 0, 1),
+        (slice_from(4, one), 17, 0, 1),
+        (slice_from(4, one), 15, 0, 0),
+        (slice_from(0, five), 21, 0, 21),
+    ];
+    expect_results(&rt, 5, &rows);
+}
+
+/// The greatest word of 63 bits, which is the signed number -1.
+const ONES_63: u64 = 0x7FFF_FFFF_FFFF_FFFF;
+
+/// The word of 63 bits for the least signed number.
+const LEAST_63: u64 = 0x4000_0000_0000_0000;
+
+#[test]
+fn sixty_three_bits_of_arithmetic(rt: HostRuntime) {
+    let rows = [
+        (Op::Add, ONES_63, 1, 0),
+        (Op::Add, LEAST_63, LEAST_63, 0),
+        (Op::Sub, 0, 1, ONES_63),
+        (Op::Sub, LEAST_63, 1, 0x3FFF_FFFF_FFFF_FFFF),
+        (Op::Mul, ONES_63, ONES_63, 1),
+        (Op::Mul, LEAST_63, 2, 0),
+        (Op::Divu, ONES_63, 4, 0x1FFF_FFFF_FFFF_FFFF),
+        (Op::Divu, 9, 0, ONES_63),
+        (Op::Modu, ONES_63, 4, 3),
+        (Op::Modu, 9, 0, 9),
+        (Op::Quot, LEAST_63, ONES_63, LEAST_63),
+        (Op::Quot, 0x7FFF_FFFF_FFFF_FFF9, 2, 0x7FFF_FFFF_FFFF_FFFD),
+        (Op::Quot, 7, 0x7FFF_FFFF_FFFF_FFFE, 0x7FFF_FFFF_FFFF_FFFD),
+        (Op::Quot, 9, 0, ONES_63),
+        (Op::Rem, LEAST_63, ONES_63, 0),
+        (Op::Rem, 0x7FFF_FFFF_FFFF_FFF9, 2, ONES_63),
+        (Op::Rem, 7, 0x7FFF_FFFF_FFFF_FFFE, 1),
+        (Op::Rem, 9, 0, 9),
+        (Op::Com, LEAST_63, 9, 0x3FFF_FFFF_FFFF_FFFF),
+        (Op::Neg, LEAST_63, 9, LEAST_63),
+        (Op::Neg, 1, 9, ONES_63),
+    ];
+    expect_results(&rt, 63, &rows);
+}
+
+#[test]
+fn sixty_three_bits_of_the_rest(rt: HostRuntime) {
+    let rows = [
+        (Op::And, 12, 10, 8),
+        (Op::Or, 12, 10, 14),
+        (Op::Xor, 12, 10, 6),
+        (Op::Xor, ONES_63, LEAST_63, 0x3FFF_FFFF_FFFF_FFFF),
+        (Op::Shl, 3, 62, LEAST_63),
+        (Op::Shl, 3, 63, 3),
+        (Op::Shl, 3, 64, 6),
+        (Op::Shrl, LEAST_63, 62, 1),
+        (Op::Shrl, LEAST_63, 63, LEAST_63),
+        (Op::Shra, LEAST_63, 62, ONES_63),
+        (Op::Shra, LEAST_63, 63, LEAST_63),
+        (Op::Shra, LEAST_63, 64, 0x6000_0000_0000_0000),
+        (Op::Shra, 0x3FFF_FFFF_FFFF_FFFF, 1, 0x1FFF_FFFF_FFFF_FFFF),
+        (Op::Eq, ONES_63, ONES_63, 1),
+        (Op::Eq, ONES_63, LEAST_63, 0),
+        (Op::Ne, ONES_63, LEAST_63, 1),
+        (Op::Ne, ONES_63, ONES_63, 0),
+        (Op::Lt, LEAST_63, 0x3FFF_FFFF_FFFF_FFFF, 1),
+        (Op::Lt, 0x3FFF_FFFF_FFFF_FFFF, LEAST_63, 0),
+        (Op::Ge, LEAST_63, 0x3FFF_FFFF_FFFF_FFFF, 0),
+        (Op::Ge, LEAST_63, LEAST_63, 1),
+        (Op::Ltu, LEAST_63, 0x3FFF_FFFF_FFFF_FFFF, 0),
+        (Op::Ltu, 0x3FFF_FFFF_FFFF_FFFF, LEAST_63, 1),
+        (Op::Geu, LEAST_63, 0x3FFF_FFFF_FFFF_FFFF, 1),
+        (Op::Geu, 0x3FFF_FFFF_FFFF_FFFF, LEAST_63, 0),
+    ];
+    expect_results(&rt, 63, &rows);
+}
+
+#[test]
+fn extensions_and_slices_of_sixty_three_bits(rt: HostRuntime) {
+    let one = width(&rt, 1);
+    let five = width(&rt, 5);
+    let sixty_three = width(&rt, 63);
+    let whole = width(&rt, 64);
+    let rows = [
+        (Op::Zx { to: whole }, ONES_63, 0, ONES_63),
+        (Op::Sx { to: whole }, LEAST_63, 0, 0xC000_0000_0000_0000),
+        (
+            Op::Sx { to: whole },
+            0x3FFF_FFFF_FFFF_FFFF,
+            0,
+            0x3FFF_FFFF_FFFF_FFFF,
+        ),
+        (Op::Sx { to: sixty_three }, LEAST_63, 0, LEAST_63),
+        (slice_from(0, one), 0x4000_0000_0000_0002, 0, 0),
+        (slice_from(62, one), LEAST_63, 0, 1),
+        (slice_from(58, five), 0x7BFF_FFFF_FFFF_FFFF, 0, 30),
+        (
+            slice_from(0, sixty_three),
+            0x4000_0000_0000_0005,
+            0,
+            0x4000_0000_0000_0005,
+        ),
+    ];
+    expect_results(&rt, 63, &rows);
+}
+
+#[test]
+fn sixteen_bits(rt: HostRuntime) {
+    let eight = width(&rt, 8);
+    let sixty_three = width(&rt, 63);
+    let rows = [
+        (Op::Add, 0xFFFF, 2, 1),
+        (Op::Sub, 1, 2, 0xFFFF),
+        (Op::Mul, 0x8001, 0x8001, 1),
+        (Op::Divu, 0xFFFF, 0, 0xFFFF),
+        (Op::Modu, 0xFFFF, 0, 0xFFFF),
+        (Op::Quot, 0x8000, 0xFFFF, 0x8000),
+        (Op::Quot, 0x8000, 3, 0xD556),
+        (Op::Rem, 0x8000, 0xFFFF, 0),
+        (Op::Rem, 0x8000, 3, 0xFFFE),
+        (Op::Neg, 5, 0, 0xFFFB),
+        (Op::Com, 255, 0, 0xFF00),
+        (Op::Shl, 0xFFFF, 20, 0xFFF0),
+        (Op::Shrl, 0xFFFF, 36, 0xFFF),
+        (Op::Shra, 0x8000, 0xFFFF, 0xFFFF),
+        (Op::Lt, 0xFFFF, 0, 1),
+        (Op::Ltu, 0xFFFF, 0, 0),
+        (Op::Zx { to: sixty_three }, 0x8000, 0, 0x8000),
+        (Op::Sx { to: sixty_three }, 0x8000, 0, 0x7FFF_FFFF_FFFF_8000),
+        (slice_from(8, eight), 0x8005, 0, 128),
+        (slice_from(0, eight), 0x8105, 0, 5),
+    ];
+    expect_results(&rt, 16, &rows);
+}
+
+#[test]
+fn thirty_one_bits(rt: HostRuntime) {
+    let eight = width(&rt, 8);
+    let sixty_three = width(&rt, 63);
+    let rows = [
+        (Op::Add, 0x7FFF_FFFF, 2, 1),
+        (Op::Sub, 1, 2, 0x7FFF_FFFF),
+        (Op::Mul, 0x4000_0001, 0x4000_0001, 1),
+        (Op::Divu, 0x7FFF_FFFF, 0, 0x7FFF_FFFF),
+        (Op::Modu, 0x7FFF_FFFF, 0, 0x7FFF_FFFF),
+        (Op::Quot, 0x4000_0000, 0x7FFF_FFFF, 0x4000_0000),
+        (Op::Quot, 0x4000_0000, 3, 0x6AAA_AAAB),
+        (Op::Rem, 0x4000_0000, 0x7FFF_FFFF, 0),
+        (Op::Rem, 0x4000_0000, 3, 0x7FFF_FFFF),
+        (Op::Neg, 5, 0, 0x7FFF_FFFB),
+        (Op::Com, 255, 0, 0x7FFF_FF00),
+        (Op::Shl, 0x7FFF_FFFF, 35, 0x7FFF_FFF0),
+        (Op::Shrl, 0x7FFF_FFFF, 66, 0x7FF_FFFF),
+        (Op::Shra, 0x4000_0000, 0x7FFF_FFFF, 0x6000_0000),
+        (Op::Lt, 0x7FFF_FFFF, 0, 1),
+        (Op::Ltu, 0x7FFF_FFFF, 0, 0),
+        (Op::Zx { to: sixty_three }, 0x4000_0000, 0, 0x4000_0000),
+        (
+            Op::Sx { to: sixty_three },
+            0x4000_0000,
+            0,
+            0x7FFF_FFFF_C000_0000,
+        ),
+        (slice_from(23, eight), 0x4000_0005, 0, 128),
+        (slice_from(0, eight), 0x4000_0105, 0, 5),
+    ];
+    expect_results(&rt, 31, &rows);
+}
+
+#[test]
+fn extensions_of_one_bit(rt: HostRuntime) {
+    let one = width(&rt, 1);
+    let five = width(&rt, 5);
+    let thirty_one = width(&rt, 31);
+    let sixty_three = width(&rt, 63);
+    let whole = width(&rt, 64);
+    let rows = [
+        (Op::Sx { to: five }, 1, 0, 31),
+        (Op::Sx { to: thirty_one }, 1, 0, 0x7FFF_FFFF),
+        (Op::Sx { to: sixty_three }, 1, 0, 0x7FFF_FFFF_FFFF_FFFF),
+        (Op::Sx { to: whole }, 1, 0, 0xFFFF_FFFF_FFFF_FFFF),
+        (Op::Sx { to: thirty_one }, 0, 0, 0),
+        (Op::Sx { to: one }, 1, 0, 1),
+        (Op::Zx { to: sixty_three }, 1, 0, 1),
+        (slice_from(0, one), 1, 0, 1),
+    ];
+    expect_results(&rt, 1, &rows);
 }

@@ -44,3 +44,21 @@ fn writes_all_that_fits(rt: HostRuntime) -> Result<(), AllocError> {
     }
     Ok(())
 }
+
+#[test]
+fn reads_back_what_it_wrote(rt: HostRuntime) -> Result<(), AllocError> {
+    let alloc = rt.alloc();
+    let name = String::from_str(alloc, "written_by_a_test")?;
+    let mut shelf = FileShelf::new(&rt);
+    let absent = shelf.read(alloc, &name);
+    assert!(rt; matches!(absent, Err(ReadEnd::Failed)));
+    assert!(rt; shelf.write(alloc, &name, b"three words").is_ok());
+    assert!(rt; shelf.write(alloc, &name, b"two words").is_ok());
+    match shelf.read(alloc, &name) {
+        Ok(bytes) => assert!(rt; bytes.as_slice() == b"two words".as_slice()),
+        Err(_) => assert!(rt; false, "not read"),
+    }
+    assert!(rt; fs::remove_file(&rt, &name).is_ok());
+    assert_eq!(rt; shelf.faults, 1);
+    Ok(())
+}

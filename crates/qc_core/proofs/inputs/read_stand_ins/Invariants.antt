@@ -9,5 +9,6 @@ abbrev pub invariant-loop-file : goal.invariant-loop-file
 invariant-loop-file g l = record {
   good : IfSome (g.S.Shelf.files l.fn.shelf) (λ files. GoodBefore files (drop 1 (texts_of l.words.items)) l.file);
   files : g.S.Shelf.files l.shelf ≡ g.S.Shelf.files l.fn.shelf;
+  kept : g.S.Shelf.faults l.shelf ≡ g.S.Shelf.faults l.fn.shelf;
   later : g.S.Shelf.faults l.fn.shelf ≤ g.S.Shelf.faults l.shelf;
 }

@@ -1,8 +1,8 @@
-use Rattle.std.proofs.Common.{◌≡◌, ◌≤◌, ◌++◌, All, drop}
+use Rattle.std.proofs.Common.{◌≡◌, ◌≤◌, ◌++◌, All, drop, length}
 use Rattle.std.specs.Option.{option_map}
 use Rattle.arrayvec.specs.ArrayVec.{array_vec_len}
 use Rattle.qc_terms.specs.Effects.{writes_of}
-use Rattle.qc_terms.specs.Pending.{IsPending, writes_of_all}
+use Rattle.qc_terms.specs.Pending.{IsPendingWrite, writes_of_all}
 use Rattle.qc_terms.specs.State.{context_of}
 use Rattle.qc_terms.proofs.pending.pending_writes.Given as goal
 
@@ -11,5 +11,5 @@ invariant-loop-effect l = record {
   room : array_vec_len l.writes ≤ l.effect-index;
   read : option_map (λ rest. writes_of_all l.writes.items ++ rest) (writes_of (drop l.effect-index l.effects) l.operands l.after l.state)
       ≡ writes_of l.effects l.operands l.after l.state;
-  fits : All (IsPending (context_of l.state)) l.writes.items;
+  fits : All (IsPendingWrite (context_of l.state) (length l.state.memory)) l.writes.items;
 }

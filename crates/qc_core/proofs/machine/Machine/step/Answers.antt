@@ -1,12 +1,12 @@
 use Rattle.std.proofs.Common.{◌≡◌, ◌∙◌, Some, ap, refl, sym, subst}
 use Rattle.std.specs.List.{slice_get}
 use Rattle.qc_terms.specs.declared.state.State.{State}
-use Rattle.qc_terms.specs.Effects.{trapped}
+use Rattle.qc_terms.specs.Effects.{outcome_of_trap}
 use Rattle.qc_descr.specs.Description.{AreInRange, kinds_of}
 use Rattle.qc_descr.specs.Step.{IsUndecodable, Steps}
 use Rattle.qc_core.specs.Machine.{IsMachineOf}
 use Rattle.qc_core.proofs.Instances.{range_read, same_read, within_read}
-use Rattle.qc_core.proofs.Steps.{facts_kept, machine_kept, operands_there, step_done, steps_trapped, typed_there}
+use Rattle.qc_core.proofs.Steps.{facts_kept, few_there, machine_kept, operands_there, step_done, steps_trapped, typed_there}
 use Rattle.qc_core.proofs.machine.Machine.step.Goals as goal
 
 pub returns-in_default-decode-clause-step : goal.returns-in_default-decode-clause-step
@@ -14,7 +14,7 @@ returns-in_default-decode-clause-step c =
     let same : c.self.inside.state ≡ c.args.self.now = c.self.view_is in
     let none : IsUndecodable c.args.descr.now c.self.inside.state.memory c.self.inside.state.pc =
     subst (λ m. IsUndecodable c.args.descr.now m c.self.inside.state.pc) c.as_slice-memory.ensures (c.in_default-decode.ensures.none refl) in
-    subst (λ s. Steps c.args.descr.now s (trapped 4 c.self.inside.state)) same
+    subst (λ s. Steps c.args.descr.now s (outcome_of_trap 4 c.self.inside.state)) same
     (steps_trapped c.args.descr.now c.self.inside.state c.in_default.is none)
 
 pub bounds-as_slice-instance : goal.bounds-as_slice-instance
@@ -28,6 +28,12 @@ apply_rtl-requires-clause-typed c =
     let is : slice_get c.args.descr.now.instructions c.in-Some-decode.instance.instruction ≡ Some c.index-as_slice-instance.result =
     same_read c.args.descr.now c.as_slice.result.now c.in-Some-decode.instance.instruction _ c.index-as_slice-instance.result c.as_slice.ensures c.in-Some-decode.ensures.found.encodes.is c.index-as_slice-instance.is in
     typed_there c.args.descr.now c.self.inside.state c.in-Some-decode.instance.instruction c.index-as_slice-instance.result c.requires.valid made is
+
+pub apply_rtl-requires-clause-few : goal.apply_rtl-requires-clause-few
+apply_rtl-requires-clause-few c =
+    let is : slice_get c.args.descr.now.instructions c.in-Some-decode.instance.instruction ≡ Some c.index-as_slice-instance.result =
+    same_read c.args.descr.now c.as_slice.result.now c.in-Some-decode.instance.instruction _ c.index-as_slice-instance.result c.as_slice.ensures c.in-Some-decode.ensures.found.encodes.is c.index-as_slice-instance.is in
+    few_there c.args.descr.now c.in-Some-decode.instance.instruction c.index-as_slice-instance.result c.requires.valid is
 
 pub apply_rtl-requires-clause-operands : goal.apply_rtl-requires-clause-operands
 apply_rtl-requires-clause-operands c =

@@ -1,7 +1,11 @@
+//! Texts of bytes.
 ghost use Rattle.std.specs.Prelude.{◌≡◌, IfOk};
 
 use std::alloc::{AllocError, Global};
 use std::marker::Model;
+
+/// Want of memory.
+pub type NoMemory = AllocError;
 
 /// A text of bytes. Contracts see it as the list of its bytes.
 #[derive(Debug, Drop)]
@@ -19,7 +23,7 @@ impl Model for Text {
 
 impl Text {
     /// A text of these bytes, which are copied.
-    pub fn new(alloc: Global, bytes: &[u8]) -> Result<Text, AllocError>
+    pub fn new(alloc: Global, bytes: &[u8]) -> Result<Text, NoMemory>
         ensures { IfOk result (λ t. t ≡ bytes.now) }
     {
         Ok(Text {
