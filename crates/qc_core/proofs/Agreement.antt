@@ -1,16 +1,18 @@
 -- The image of a program of constants, run on tin32, shows what the program shows.
-use Rattle.std.proofs.Common.{◌≡◌, ◌≤◌, ℕ, ◌+◌, ◌*◌, List, [], ◌++◌, map, length, refl, ap, sym, subst, subst₂, ◌∙◌, arith, replicate}
+use Rattle.std.proofs.Common.{◌≡◌, ◌≤◌, ℕ, ◌+◌, ◌*◌, List, [], ◌∷◌, ◌++◌, map, length, length-append, refl, ap, sym, subst, subst₂, ◌∙◌, arith, replicate}
 use Rattle.std.specs.List.{flat_map}
+use Rattle.std.proofs.lemmas.List.{length-map}
 use Rattle.qc_terms.specs.declared.state.State.{State}
 use Rattle.qc_terms.specs.Observation.{Observation, Below}
 use Rattle.qc_terms.specs.declared.image.Image.{Image}
 use Rattle.qc_descr.specs.declared.description.Description.{Description}
-use Rattle.qc_descr.specs.Loading.{loaded, loaded_memory}
-use Rattle.qc_descr.specs.Step.{OneInstance, Progress, RunsTo, observed}
+use Rattle.qc_descr.specs.Loading.{loaded_state, loaded_memory}
+use Rattle.qc_descr.specs.Step.{OneInstance, Progress, RunsTo, observation_of}
 use Rattle.qc_core.specs.declared.constants.ConstantProgram.{ConstantProgram}
 use Rattle.qc_core.specs.Agreement.{Agrees, AgreesOn}
-use Rattle.qc_core.specs.Code.{DecodesInto, image_of, instance_bytes}
-use Rattle.qc_core.specs.ConstantProgram.{IsConstantProgram, program_shows, program_state, statements_of, weight_of}
+use Rattle.qc_core.specs.Code.{image_of}
+use Rattle.qc_descr.specs.Encoding.{DecodesInto, instance_bytes}
+use Rattle.qc_core.specs.ConstantProgram.{IsConstantProgram, Output, Return, program_shows, program_state, statements_of, weight_of}
 use Rattle.qc_core.specs.Tin32.{tin32}
 use Rattle.qc_core.proofs.Codes.{Code, code_for, code_decodes, code_has_words, code_length, counts_are, instructs_are, instructs_of, HasWords}
 use Rattle.qc_core.proofs.Run.{IsRunning, can_run, run_is_at, seen_at}
@@ -21,7 +23,7 @@ code_of p = code_for p.outputs p.returned
 
 -- the state and the stage in which the run begins
 abbrev pub start_of : ConstantProgram → List ℕ → State
-start_of p input = loaded tin32 (image_of tin32 p) input
+start_of p input = loaded_state tin32 (image_of tin32 p) input
 
 abbrev pub first_stage : ConstantProgram → Stage
 first_stage p = Running (code_of p) 0 []
@@ -54,17 +56,17 @@ begins p input h =
     }
 
 -- the machine shows what the code's stages do
-pub seen_after : OneInstance → (p : ConstantProgram) (input : List ℕ) → IsConstantProgram p → (n : ℕ) (now : Progress) → RunsTo tin32 (start_of p input) n now → observed now ≡ stage_shows (steps_of next_stage (first_stage p) n)
+pub seen_after : OneInstance → (p : ConstantProgram) (input : List ℕ) → IsConstantProgram p → (n : ℕ) (now : Progress) → RunsTo tin32 (start_of p input) n now → observation_of now ≡ stage_shows (steps_of next_stage (first_stage p) n)
 seen_after one p input h n now runs =
     seen_at _ now (run_is_at one (first_stage p) (start_of p input) n now (begins p input h) runs)
 
 -- the machine never shows more than the program in the end, and that much after enough steps
-machine_below : OneInstance → (p : ConstantProgram) (input : List ℕ) → IsConstantProgram p → (n : ℕ) (now : Progress) → RunsTo tin32 (start_of p input) n now → Below (observed now) (last_shown p)
+machine_below : OneInstance → (p : ConstantProgram) (input : List ℕ) → IsConstantProgram p → (n : ℕ) (now : Progress) → RunsTo tin32 (start_of p input) n now → Below (observation_of now) (last_shown p)
 machine_below one p input h n now runs =
     subst₂ Below (sym (seen_after one p input h n now runs)) (code_shows_program p.outputs p.returned 0 [])
     (steps_below stage_finishes (first_stage p) n)
 
-pub machine_end : OneInstance → (p : ConstantProgram) (input : List ℕ) → IsConstantProgram p → (n : ℕ) (now : Progress) → RunsTo tin32 (start_of p input) n now → length (instructs_of (code_of p)) ≤ n → observed now ≡ last_shown p
+pub machine_end : OneInstance → (p : ConstantProgram) (input : List ℕ) → IsConstantProgram p → (n : ℕ) (now : Progress) → RunsTo tin32 (start_of p input) n now → length (instructs_of (code_of p)) ≤ n → observation_of now ≡ last_shown p
 machine_end one p input h n now runs enough =
     seen_after one p input h n now runs ∙ steps_end stage_finishes (first_stage p) n enough
     ∙ code_shows_program p.outputs p.returned 0 []
@@ -87,7 +89,7 @@ agrees_on one p input h = record {
       (run.0, run.1, subst (Below (program_shows p n)) (sym (machine_end one p input h _ run.0 run.1 enough)) (program_below_last p n));
   program_follows = λ n now runs.
       let enough : length (statements_of p) ≤ (n + 1) * (weight_of p + 1) = grind arith in
-      subst (Below (observed now)) (sym (program_end p _ enough)) (machine_below one p input h n now runs);
+      subst (Below (observation_of now)) (sym (program_end p _ enough)) (machine_below one p input h n now runs);
 }
 
 -- the image's code decodes into the program's instructions
@@ -96,10 +98,16 @@ decodes p h =
     subst (λ is. DecodesInto tin32 (flat_map (instance_bytes tin32) is) (instructs_of (code_of p))) (instructs_are p.outputs p.returned)
     (code_decodes (code_of p) (has_words p h))
 
+-- two instructions for each statement
+twice_statements : (p : ConstantProgram) → length (instructs_of (code_of p)) ≡ 2 * length (statements_of p)
+twice_statements p =
+    omega (arith, code_length p.outputs p.returned, length-append (map Output p.outputs) (Return p.returned ∷ []), length-map p.outputs Output)
+
 -- for every input
 pub agreement : OneInstance → (p : ConstantProgram) → IsConstantProgram p → Agrees tin32 p (image_of tin32 p)
 agreement one p h = record {
   instances = instructs_of (code_of p);
   decodes = decodes p h;
+  twice = twice_statements p;
   runs = λ input words. agrees_on one p input h;
 }

@@ -6,8 +6,8 @@ use Rattle.std.specs.List.{flat_map}
 use Rattle.qc_descr.specs.Step.{EncodesAt}
 use Rattle.qc_descr.specs.declared.description.Instruction.{Instruction}
 use Rattle.qc_descr.specs.Description.{counts_of}
-use Rattle.qc_descr.specs.Encoding.{Encodes}
-use Rattle.qc_core.specs.Code.{Instruct, DecodesInto, load_constant, put_cell, halt_with_cell, instance_bytes}
+use Rattle.qc_descr.specs.Encoding.{Encodes, InstanceOf, DecodesInto, instance_bytes}
+use Rattle.qc_core.specs.Code.{load_constant, put_cell, halt_with_cell}
 use Rattle.qc_core.specs.Tin32.{tin32, tin32_instructions, tin32_spaces, const_instruction, out_instruction, halt_instruction, register_instruction, first_token, empty_token, immediate_token, each_below}
 
 -- the instructions that are left: const of a word, op_out, and op_halt
@@ -17,7 +17,7 @@ pub data Code : Type 0 where
   Halt : Code
 
 -- the first instruction
-abbrev pub first_of : Code → Instruct
+abbrev pub first_of : Code → InstanceOf
 first_of (Load word rest) = load_constant word
 first_of (Put rest) = put_cell
 first_of Halt = halt_with_cell
@@ -28,7 +28,7 @@ instruction_of_first (Load word rest) = const_instruction
 instruction_of_first (Put rest) = out_instruction
 instruction_of_first Halt = halt_instruction
 
-abbrev pub instructs_of : Code → List Instruct
+abbrev pub instructs_of : Code → List InstanceOf
 instructs_of (Load word rest) = load_constant word ∷ instructs_of rest
 instructs_of (Put rest) = put_cell ∷ instructs_of rest
 instructs_of Halt = halt_with_cell ∷ []
@@ -66,9 +66,9 @@ first_is Halt = refl
 -- its bytes are the instance's, and there are 8
 pub first_encodes : (c : Code) → HasWords c → Encodes tin32 (first_of c).number (first_of c).operands (instance_bytes tin32 (first_of c))
 unfolding tin32 tin32_instructions tin32_spaces const_instruction out_instruction halt_instruction register_instruction
-first_encodes (Load word rest) w = record { instruction = const_instruction; is = refl; in_range = (lit< tt, (w.0, tt)); bytes_are = refl }
-first_encodes (Put rest) w = record { instruction = out_instruction; is = refl; in_range = (lit< tt, tt); bytes_are = refl }
-first_encodes Halt w = record { instruction = halt_instruction; is = refl; in_range = (lit< tt, tt); bytes_are = refl }
+first_encodes (Load word rest) w = record { instruction = const_instruction; is = refl; coded = record { in_range = (lit< tt, (w.0, tt)); bytes_are = refl } }
+first_encodes (Put rest) w = record { instruction = out_instruction; is = refl; coded = record { in_range = (lit< tt, tt); bytes_are = refl } }
+first_encodes Halt w = record { instruction = halt_instruction; is = refl; coded = record { in_range = (lit< tt, tt); bytes_are = refl } }
 
 pub first_length : (c : Code) → length (instance_bytes tin32 (first_of c)) ≡ 8
 unfolding tin32 tin32_instructions const_instruction out_instruction halt_instruction register_instruction first_token empty_token immediate_token each_below

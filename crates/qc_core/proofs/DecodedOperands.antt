@@ -16,10 +16,10 @@ use Rattle.qc_descr.specs.declared.description.OperandKind.{OperandKind}
 use Rattle.qc_descr.specs.declared.description.OperandKind.TheVariants as kind
 use Rattle.qc_descr.specs.declared.description.Space.{Space}
 use Rattle.qc_descr.specs.Coding.{bit_value, memory_bytes}
-use Rattle.qc_descr.specs.Description.{AreInRange, IsInRange, counts_of, kinds_of}
-use Rattle.qc_descr.specs.Encoding.{byte_value}
+use Rattle.qc_descr.specs.Description.{AreInRange, IsInRange, counts_of, kinds_of, IsNarrow}
+use Rattle.qc_descr.specs.Encoding.{byte_value, IsCodedBy}
 use Rattle.qc_descr.specs.Valid.{HasSize, HaveSizes, IsCovered, IsWithinLimits, is_piece}
-use Rattle.qc_core.specs.Decoding.{IsCodedBy, IsNarrow, operand_in_byte, operand_in_bytes, piece_value}
+use Rattle.qc_core.specs.Decoding.{operand_in_byte, operand_in_bytes, piece_value}
 
 -- a bit at a place of a number
 placed_bit : (v a b : ℕ) → v < 2 → bit_at (v * 2 ^ a) b ≡ cond (nat_eq a b) v 0

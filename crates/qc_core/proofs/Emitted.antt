@@ -3,18 +3,20 @@ use Rattle.std.proofs.Common.{lit≤, ◌≤◌, ◌≡◌, ◌<◌, ◌^◌, �
 use Rattle.std.specs.List.{flat_map}
 use Rattle.std.proofs.lemmas.List.Concat.{flat_map-append}
 use Rattle.qc_descr.specs.declared.description.Description.{Description}
-use Rattle.qc_descr.specs.Encoding.{Encodes}
+use Rattle.qc_descr.specs.Encoding.{Encodes, instance_bytes, IsInstance}
 use Rattle.qc_core.specs.declared.constants.ConstantProgram.{ConstantProgram}
-use Rattle.qc_core.specs.Code.{image_of, load_constant, put_cell, halt_with_cell, instance_bytes, instructions_for, output_bytes, return_bytes}
+use Rattle.qc_core.specs.Code.{image_of, load_constant, put_cell, halt_with_cell, instructions_for, output_bytes, return_bytes}
 use Rattle.qc_core.specs.ConstantProgram.{IsConstantProgram}
 use Rattle.qc_descr.specs.Loading.{FitsMachine}
-use Rattle.qc_core.specs.Instance.{IsInstance}
+use Rattle.qc_descr.specs.Valid.{IsValid}
+use Rattle.qc_core.specs.ImageFile.{IsWritable}
 use Rattle.qc_core.specs.Tin32.{tin32}
+use Rattle.qc_terms.specs.declared.image.Image.{Image}
 use Rattle.qc_core.proofs.Codes.{Load, Put, Halt, first_encodes, first_length}
 
 -- what encodes is an instance
 instance_of : (d : Description) (number : ℕ) (operands bytes : List ℕ) → Encodes d number operands bytes → IsInstance d number operands
-instance_of d number operands bytes e = record { instruction = e.instruction; is = e.is; in_range = e.in_range }
+instance_of d number operands bytes e = record { instruction = e.instruction; is = e.is; in_range = e.coded.in_range }
 
 pub load_is_instance : (word : ℕ) → word < 2 ^ 32 → IsInstance tin32 0 (0 ∷ word ∷ [])
 load_is_instance word small = instance_of tin32 0 _ _ (first_encodes (Load word Halt) (small, tt))
@@ -59,4 +61,12 @@ image_fits p h = record {
   code = omega (arith, code_size p, h.few, room_for_code);
   room = omega arith;
   last = λ e. cc e;
+}
+
+-- an image that fits a machine may be written
+pub is_writable : (d : Description) (image : Image) → IsValid d → FitsMachine d image → IsWritable image
+is_writable d image valid fits = record {
+  code = omega (arith, fits.code, valid.layout.code_most);
+  initial = omega (arith, fits.room);
+  last = fits.last;
 }

@@ -8,7 +8,8 @@ use Rattle.qc_terms.specs.declared.image.Image.{Image}
 use Rattle.qc_core.specs.declared.answer.Status.{Status}
 use Rattle.qc_core.specs.declared.answer.Status.TheVariants.{Done, Refused, Usage, ReadFault, WriteFault, OutFault, NoMemory}
 use Rattle.qc_core.specs.declared.constants.ConstantProgram.{ConstantProgram}
-use Rattle.qc_core.specs.Answer.{Outside, Finishes, FailsToPut, IsAccepted, IsPut, IsRefused, IsStored, Leaves, NamesInput, StopsReading, Stores, TellsImage, TellsRefusal, compiled_line, name_of, refusal_line}
+use Rattle.qc_core.specs.Answer.{Outside, FailsToPut, IsAccepted, IsPut, IsRefused, AnswerLeaves, NamesInput, Stores, compiled_line, name_of, refusal_line}
+use Rattle.qc_core.specs.Stages.{Finishes, IsStored, StopsReading, TellsImage, TellsRefusal}
 use Rattle.qc_core.specs.declared.answer.Fault.{Fault}
 use Rattle.qc_core.specs.Files.{Files, content_of}
 use Rattle.qc_core.specs.Headline.{IsCompiledTold}
@@ -16,6 +17,7 @@ use Rattle.qc_core.specs.ImageFile.{image_bytes}
 use Rattle.qc_descr.specs.Step.{OneInstance}
 use Rattle.qc_core.proofs.Agreement.{agreement}
 use Rattle.qc_core.proofs.Emitted.{image_fits}
+use Rattle.qc_core.proofs.Tin32Valid.{tin32_valid}
 use Rattle.qc_core.specs.ConstantProgram.{IsConstantProgram}
 use Rattle.qc_core.specs.Code.{image_of}
 use Rattle.qc_core.specs.Tin32.{tin32}
@@ -42,7 +44,7 @@ some_program names p None accepted = tt
 some_program names p (Some files) accepted = (p, accepted)
 
 -- a command whose files were read, and what was done with its program after that
-pub leaves_finished : (names : List (List ℕ)) (p : ConstantProgram) (old new : Outside) (mid : ℕ) (status : Status) → IsConstantProgram p → IfSome old.files (λ files. IsAccepted files names p) → old.shelf_faults ≤ mid → Finishes p (name_of names 5) (record old { shelf_faults = mid }) new status → Leaves names old new status
+pub leaves_finished : (names : List (List ℕ)) (p : ConstantProgram) (old new : Outside) (mid : ℕ) (status : Status) → IsConstantProgram p → IfSome old.files (λ files. IsAccepted files names p) → old.shelf_faults ≤ mid → Finishes p (name_of names 5) (record old { shelf_faults = mid }) new status → AnswerLeaves names old new status
 leaves_finished names p old new mid Done small accepted later f = (image_of tin32 p, stores names p old.files new.files small accepted f.0, f.1)
 leaves_finished names p old new mid WriteFault small accepted later f =
     (omega (arith, later, f.0), some_program names p old.files accepted, f.1, f.2)
@@ -54,7 +56,7 @@ leaves_finished names p old new mid (Usage word) small accepted later f = absurd
 leaves_finished names p old new mid (ReadFault file) small accepted later f = absurd f
 
 -- a command that is refused, and whose refusal was told
-pub leaves_refused : (names : List (List ℕ)) (fault : Fault) (old new : Outside) (status : Status) → NamesInput fault → IfSome old.files (λ files. IsRefused files names fault) → new.files ≡ old.files → TellsRefusal fault old.written new.written old.out_faults new.out_faults status → Leaves names old new status
+pub leaves_refused : (names : List (List ℕ)) (fault : Fault) (old new : Outside) (status : Status) → NamesInput fault → IfSome old.files (λ files. IsRefused files names fault) → new.files ≡ old.files → TellsRefusal fault old.written new.written old.out_faults new.out_faults status → AnswerLeaves names old new status
 leaves_refused names fault old new Done named refused same told = absurd told
 leaves_refused names fault old new (Refused f) named refused same told =
     (subst NamesInput (sym told.0) named, subst (λ x. IfSome old.files (λ files. IsRefused files names x)) (sym told.0) refused, same, subst (λ x. IsPut (refusal_line x) old.written new.written ⊎ FailsToPut (refusal_line x) old.written new.written old.out_faults new.out_faults) (sym told.0) told.1)
@@ -65,7 +67,7 @@ leaves_refused names fault old new OutFault named refused same told = absurd tol
 leaves_refused names fault old new NoMemory named refused same told = (inl same, told)
 
 -- a command whose reading stops otherwise
-pub leaves_stopped : (names : List (List ℕ)) (old new : Outside) (status : Status) → ((fault : Fault) → status ≡ Refused fault → ⊥) → new.files ≡ old.files → new.written ≡ old.written → StopsReading names old.files old.shelf_faults new.shelf_faults status → Leaves names old new status
+pub leaves_stopped : (names : List (List ℕ)) (old new : Outside) (status : Status) → ((fault : Fault) → status ≡ Refused fault → ⊥) → new.files ≡ old.files → new.written ≡ old.written → StopsReading names old.files old.shelf_faults new.shelf_faults status → AnswerLeaves names old new status
 leaves_stopped names old new Done other same quiet stops = absurd stops
 leaves_stopped names old new (Refused fault) other same quiet stops = absurd (other fault refl)
 leaves_stopped names old new (Usage word) other same quiet stops = absurd stops
@@ -87,6 +89,7 @@ compiled one names image (Some before) new stored =
     rw stored.3 (record {
       program = stored.0;
       accepted = stored.1;
+      valid = tin32_valid;
       image = image;
       fits = rw stored.2 (image_fits stored.0 stored.1.program.program);
       file = content_of_bound before (name_of names 5) (image_bytes image);

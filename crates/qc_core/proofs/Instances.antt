@@ -9,10 +9,9 @@ use Rattle.qc_descr.specs.declared.description.Description.{Description}
 use Rattle.qc_descr.specs.declared.description.Instruction.{Instruction}
 use Rattle.qc_descr.specs.declared.description.OperandKind.{OperandKind}
 use Rattle.qc_descr.specs.Description.{AreInRange, kinds_of, size_of}
-use Rattle.qc_descr.specs.Encoding.{coded_bytes}
+use Rattle.qc_descr.specs.Encoding.{coded_bytes, IsCodedBy}
 use Rattle.qc_descr.specs.Step.{EncodesAt, IsUndecodable}
 use Rattle.qc_descr.specs.Valid.{IsCovered, IsValid}
-use Rattle.qc_core.specs.Decoding.{IsCodedBy}
 use Rattle.qc_core.proofs.DecodedOperands.{length-in_range}
 use Rattle.qc_core.proofs.EncodedBytes.{covered_at, length-coded_bytes, sum_most}
 
@@ -29,10 +28,10 @@ pub coded_at : (d : Description) (i : Instruction) (memory : List ℕ) (at numbe
 coded_at d i memory at number xs bytes covered is e =
     let same : e.encodes.instruction ≡ i = cc (e.encodes.is, is) in
     let bytes_are : bytes ≡ coded_bytes d.facts.order i.coding xs =
-    e.encodes.bytes_are ∙ ap (λ (x : Instruction). coded_bytes d.facts.order x.coding xs) same in
+    e.encodes.coded.bytes_are ∙ ap (λ (x : Instruction). coded_bytes d.facts.order x.coding xs) same in
     let count : length bytes ≡ size_of i = ap length bytes_are ∙ length-coded_bytes d.facts.order i.coding xs covered.tokens in
     record {
-      in_range = subst (λ (x : Instruction). AreInRange d (kinds_of x) xs) same e.encodes.in_range;
+      in_range = subst (λ (x : Instruction). AreInRange d (kinds_of x) xs) same e.encodes.coded.in_range;
       bytes_are = ap (take (size_of i)) e.prefix ∙ take_at bytes e.more (size_of i) count ∙ bytes_are;
     }
 
@@ -40,7 +39,7 @@ pub encodes_at : (d : Description) (i : Instruction) (memory : List ℕ) (at num
     slice_get d.instructions number ≡ Some i → size ≡ size_of i → IsCodedBy d i xs (take (size_of i) (drop at memory)) →
     EncodesAt d memory at number xs (take size (drop at memory))
 encodes_at d i memory at number size xs is e coded = record {
-  encodes = record { instruction = i; is = is; in_range = coded.in_range; bytes_are = ap (λ n. take n (drop at memory)) e ∙ coded.bytes_are };
+  encodes = record { instruction = i; is = is; coded = record { in_range = coded.in_range; bytes_are = ap (λ n. take n (drop at memory)) e ∙ coded.bytes_are } };
   more = drop size (drop at memory);
   prefix = sym (take-append-drop size (drop at memory));
 }

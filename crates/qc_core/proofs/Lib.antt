@@ -1,6 +1,7 @@
 pub mod Agreement
 pub mod Codes
 pub mod DecodedOperands
+pub mod Decodings
 pub mod Emitted
 pub mod EncodedBytes
 pub mod Endings

@@ -10,8 +10,8 @@ use Rattle.qc_terms.specs.State.{IsState}
 use Rattle.qc_descr.specs.declared.description.Description.{Description}
 use Rattle.qc_descr.specs.declared.description.Space.{Space}
 use Rattle.qc_descr.specs.Description.{counts_of, widths_of}
-use Rattle.qc_descr.specs.Loading.{loaded, loaded_memory}
-use Rattle.qc_core.specs.Machine.{IsMachineOf}
+use Rattle.qc_descr.specs.Loading.{loaded_state, loaded_memory}
+use Rattle.qc_descr.specs.Machine.{IsMachineOf}
 
 abbrev zeros : ℕ → List ℕ
 zeros count = replicate count 0
@@ -49,7 +49,7 @@ filled_bytes code initial gap rest in_code in_initial =
     (All-append P initial (replicate rest 0) in_initial (zero_bytes rest)))
 
 pub loaded_is_state : (d : Description) (image : Image) (input : List ℕ) → All (λ word. word < 2 ^ d.facts.word) input →
-    All (λ byte. byte < 256) (loaded_memory d image) → IsState (loaded d image input)
+    All (λ byte. byte < 256) (loaded_memory d image) → IsState (loaded_state d image input)
 loaded_is_state d image input words bytes = record {
   spaces = length-map (counts_of d) zeros ∙ length-map d.spaces (λ (s : Space). s.cells)
       ∙ sym (length-map d.spaces (λ (s : Space). s.width));
@@ -62,5 +62,5 @@ loaded_is_state d image input words bytes = record {
   taken = omega arith;
 }
 
-pub loaded_is_machine : (d : Description) (image : Image) (input : List ℕ) → IsMachineOf d (loaded d image input)
+pub loaded_is_machine : (d : Description) (image : Image) (input : List ℕ) → IsMachineOf d (loaded_state d image input)
 loaded_is_machine d image input = record { facts = refl; widths = refl; counts = lengths-zeroed (counts_of d) }

@@ -6,7 +6,7 @@ use Rattle.std.proofs.lemmas.List.{append_cancel_left}
 use Rattle.std.proofs.lemmas.List.Concat.{flat_map-append}
 use Rattle.std.proofs.lemmas.List.Elements.{All-append, All-from_recursion, recursion_from_All}
 use Rattle.qc_core.specs.declared.constants.ConstantProgram.{ConstantProgram}
-use Rattle.qc_core.specs.ConstantProgram.{output_text, return_text, program_text, Spells, IsReturn, HasManyOutputs, HasNoOutput, StartsWithOutputs}
+use Rattle.qc_core.specs.ConstantProgram.{output_text, return_text, program_text, IsTextOf, IsReturn, HasManyOutputs, HasNoOutput, StartsWithOutputs}
 use Rattle.qc_core.proofs.Fronts.{one_between}
 
 -- one more output than a program has
@@ -50,13 +50,13 @@ peel (p ∷ ps) (q ∷ qs) end rest small small_too none e =
 abbrev pub program_head : List ℕ
 program_head = codes "target byteorder little wordsize 32; main() { "
 
-pub body_of : (bytes : List ℕ) (p : ConstantProgram) (spells : Spells bytes p) → bytes ≡ program_head ++ (flat_map output_text p.outputs ++ (return_text p.returned ++ spells.text.0))
+pub body_of : (bytes : List ℕ) (p : ConstantProgram) (spells : IsTextOf bytes p) → bytes ≡ program_head ++ (flat_map output_text p.outputs ++ (return_text p.returned ++ spells.text.0))
 unfolding program_text
 body_of bytes p spells =
     spells.text.2 ∙ append_assoc program_head (flat_map output_text p.outputs ++ return_text p.returned) spells.text.0
     ∙ ap (λ xs. program_head ++ xs) (append_assoc (flat_map output_text p.outputs) (return_text p.returned) spells.text.0)
 
-module _ (body : List ℕ) (p : ConstantProgram) (spells : Spells (program_head ++ body) p) where
+module _ (body : List ℕ) (p : ConstantProgram) (spells : IsTextOf (program_head ++ body) p) where
   -- the text after the head
   body_is : flat_map output_text p.outputs ++ (return_text p.returned ++ spells.text.0) ≡ body
   body_is = sym (append_cancel_left program_head body _ (body_of (program_head ++ body) p spells))
@@ -81,7 +81,7 @@ module _ (body : List ℕ) (p : ConstantProgram) (spells : Spells (program_head 
       ] found.1 found.2 found.3
 
 -- the head, the outputs and a return spell a program
-pub spelled : (bytes body words rest : List ℕ) (returned : ℕ) → bytes ≡ program_head ++ body → StartsWithOutputs body words rest → IsReturn rest returned → returned < 2 ^ 32 → Spells bytes (record { outputs = words; returned = returned })
+pub spelled : (bytes body words rest : List ℕ) (returned : ℕ) → bytes ≡ program_head ++ body → StartsWithOutputs body words rest → IsReturn rest returned → returned < 2 ^ 32 → IsTextOf bytes (record { outputs = words; returned = returned })
 unfolding program_text
 spelled bytes body words rest returned head starts returns small = record {
   program = record { few = starts.few; outputs = starts.small; returned = small };
@@ -94,24 +94,24 @@ spelled bytes body words rest returned head starts returns small = record {
 }
 
 -- without the head, with too many outputs, or without a return nothing is spelled
-pub no_head : (bytes : List ℕ) → ((rest : List ℕ) → bytes ≡ program_head ++ rest → ⊥) → (p : ConstantProgram) → Spells bytes p → ⊥
+pub no_head : (bytes : List ℕ) → ((rest : List ℕ) → bytes ≡ program_head ++ rest → ⊥) → (p : ConstantProgram) → IsTextOf bytes p → ⊥
 no_head bytes none p spells = none _ (body_of bytes p spells)
 
-pub too_many_outputs : (bytes body : List ℕ) → bytes ≡ program_head ++ body → HasManyOutputs body → (p : ConstantProgram) → Spells bytes p → ⊥
-too_many_outputs bytes body head many p spells = not_many body p (subst (λ bs. Spells bs p) head spells) many
+pub too_many_outputs : (bytes body : List ℕ) → bytes ≡ program_head ++ body → HasManyOutputs body → (p : ConstantProgram) → IsTextOf bytes p → ⊥
+too_many_outputs bytes body head many p spells = not_many body p (subst (λ bs. IsTextOf bs p) head spells) many
 
-pub no_return : (bytes body words rest : List ℕ) → bytes ≡ program_head ++ body → StartsWithOutputs body words rest → ((n : ℕ) → n < 2 ^ 32 → IsReturn rest n → ⊥) → (p : ConstantProgram) → Spells bytes p → ⊥
+pub no_return : (bytes body words rest : List ℕ) → bytes ≡ program_head ++ body → StartsWithOutputs body words rest → ((n : ℕ) → n < 2 ^ 32 → IsReturn rest n → ⊥) → (p : ConstantProgram) → IsTextOf bytes p → ⊥
 no_return bytes body words rest head starts none p spells =
-    let again = subst (λ bs. Spells bs p) head spells in
+    let again = subst (λ bs. IsTextOf bs p) head spells in
     none p.returned again.program.returned (again.text.0, again.text.1, sym (outputs_are body p again words rest starts).1)
 
 -- a text spells one program
-pub one_program : (bytes : List ℕ) (p q : ConstantProgram) → Spells bytes p → Spells bytes q → p ≡ q
+pub one_program : (bytes : List ℕ) (p q : ConstantProgram) → IsTextOf bytes p → IsTextOf bytes q → p ≡ q
 one_program bytes p q spells spells_too =
     let rest = return_text q.returned ++ spells_too.text.0 in
     let body = flat_map output_text q.outputs ++ rest in
     let split : bytes ≡ program_head ++ body = body_of bytes q spells_too in
-    let again : Spells (program_head ++ body) p = subst (λ bs. Spells bs p) split spells in
+    let again : IsTextOf (program_head ++ body) p = subst (λ bs. IsTextOf bs p) split spells in
     let starts : StartsWithOutputs body q.outputs rest = record {
       few = spells_too.program.few;
       small = spells_too.program.outputs;

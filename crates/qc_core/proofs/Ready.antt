@@ -6,7 +6,7 @@ use Rattle.qc_terms.specs.declared.term.Place.TheVariants.{Operand}
 use Rattle.qc_terms.specs.Effects.{Outcome, effect_has_input, outcome_of, writes_of_effect}
 use Rattle.qc_terms.specs.Tree.{tree_of-imm, tree_of-reg}
 use Rattle.qc_descr.specs.Step.{EncodesAt, OneInstance, StepsBy, StepsFrom, Steps, address_after}
-use Rattle.qc_core.specs.Code.{instance_bytes}
+use Rattle.qc_descr.specs.Encoding.{instance_bytes}
 use Rattle.qc_core.specs.Tin32.{tin32, const_instruction, out_instruction, halt_instruction, register_instruction}
 use Rattle.qc_core.proofs.Codes.{Code, Load, Put, Halt, first_of, instruction_of_first, first_is, first_length, word_is}
 use Rattle.qc_core.proofs.Tin32Valid.{tin32_valid}

@@ -6,8 +6,8 @@ use Rattle.qc_terms.specs.declared.state.Event.TheVariants.{Ended}
 use Rattle.qc_terms.specs.declared.state.State.{State}
 use Rattle.qc_terms.specs.Effects.{Outcome}
 use Rattle.qc_terms.specs.Observation.{words_of}
-use Rattle.qc_descr.specs.Step.{Advances, OneInstance, Progress, RunsTo, StepsFrom, observed}
-use Rattle.qc_core.specs.Code.{instance_bytes}
+use Rattle.qc_descr.specs.Step.{Advances, OneInstance, Progress, RunsTo, StepsFrom, observation_of}
+use Rattle.qc_descr.specs.Encoding.{instance_bytes}
 use Rattle.qc_core.specs.Tin32.{tin32}
 use Rattle.qc_core.proofs.Codes.{Code, Load, Put, Halt, HasWords, first_of, first_length, first_stands, instructs_of, zero_is}
 use Rattle.qc_core.proofs.Ready.{IsReady, first_outcome, ready_steps, ready_steps_so, outcome_load, outcome_put, outcome_halt}
@@ -161,6 +161,6 @@ can_run one a s (suc n) start =
     (next.0, (before.0, before.1, next.1))
 
 -- what is seen at a stage
-pub seen_at : (a : Stage) (p : Progress) → IsAt a p → observed p ≡ stage_shows a
+pub seen_at : (a : Stage) (p : Progress) → IsAt a p → observation_of p ≡ stage_shows a
 seen_at (Running c cell output) p r = cc (r.output, r.ending)
 seen_at (Done word output) p r = cc (r.output, r.ending)

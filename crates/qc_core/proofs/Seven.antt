@@ -2,10 +2,10 @@
 use Rattle.std.proofs.Common.{◌≡◌, ◌<◌, ◌^◌, ℕ, zero, suc, List, [], ◌∷◌, refl, arith, lit<, lit≤, inl}
 use Rattle.std.proofs.lemmas.Fmt.{decimal_digit}
 use Rattle.std.proofs.lemmas.List.Elements.{All-from_recursion}
-use Rattle.qc_descr.specs.Loading.{loaded}
-use Rattle.qc_descr.specs.Step.{OneInstance, Progress, RunsTo, observed}
+use Rattle.qc_descr.specs.Loading.{loaded_state}
+use Rattle.qc_descr.specs.Step.{OneInstance, Progress, RunsTo, observation_of}
 use Rattle.qc_core.specs.Code.{image_of}
-use Rattle.qc_core.specs.ConstantProgram.{IsConstantProgram, Spells, program_text}
+use Rattle.qc_core.specs.ConstantProgram.{IsConstantProgram, IsTextOf, program_text}
 use Rattle.qc_core.specs.Example.{seven, seven_image, seven_shows, seven_text}
 use Rattle.qc_core.specs.ImageFile.{image_bytes}
 use Rattle.qc_core.specs.Tin32.{tin32, tin32_instructions, const_instruction, out_instruction, halt_instruction, register_instruction, first_token, empty_token, immediate_token, each_below}
@@ -18,7 +18,7 @@ small = record {
   returned = lit< tt;
 }
 
-pub text_of_seven : Spells seven_text seven
+pub text_of_seven : IsTextOf seven_text seven
 unfolding program_text
 text_of_seven = record {
   program = small;
@@ -29,7 +29,7 @@ pub image_of_seven : image_bytes (image_of tin32 seven) ≡ seven_image
 unfolding image_bytes tin32 tin32_instructions const_instruction out_instruction halt_instruction register_instruction first_token empty_token immediate_token each_below
 image_of_seven = refl
 
-pub run_of_seven : OneInstance → (input : List ℕ) (steps : ℕ) (p : Progress) → RunsTo tin32 (loaded tin32 (image_of tin32 seven) input) steps p → observed p ≡ seven_shows steps
+pub run_of_seven : OneInstance → (input : List ℕ) (steps : ℕ) (p : Progress) → RunsTo tin32 (loaded_state tin32 (image_of tin32 seven) input) steps p → observation_of p ≡ seven_shows steps
 run_of_seven one input zero p runs = seen_after one seven input small 0 p runs
 run_of_seven one input (suc zero) p runs = seen_after one seven input small 1 p runs
 run_of_seven one input (suc (suc zero)) p runs = seen_after one seven input small 2 p runs

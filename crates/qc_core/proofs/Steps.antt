@@ -24,7 +24,7 @@ use Rattle.qc_descr.specs.declared.description.OperandKind.TheVariants as kind
 use Rattle.qc_descr.specs.Description.{AreInRange, context_of_description, kinds_of}
 use Rattle.qc_descr.specs.Step.{EncodesAt, IsUndecodable, Steps, StepsBy, StepsFrom, address_after}
 use Rattle.qc_descr.specs.Valid.{EffectNames, IsValid, IsValidInstruction, NamesDest, NamesOperands, NamesPlace}
-use Rattle.qc_core.specs.Machine.{IsMachineOf}
+use Rattle.qc_descr.specs.Machine.{IsMachineOf}
 use Rattle.qc_core.proofs.DecodedOperands.{in_range_at, length-in_range}
 
 -- the facts of a machine stay

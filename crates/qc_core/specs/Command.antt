@@ -1,5 +1,6 @@
 -- The words of a command.
-use Rattle.std.specs.Prelude.{ℕ, suc, ◌≡◌, ◌<◌, ◌≤◌, ◌⊎◌, List, [], ◌∷◌, ◌++◌, length, take, map, Bool, true, false, codes, not, nat_eq, String}
+use Rattle.std.specs.Prelude.{ℕ, suc, ◌≡◌, ◌<◌, ◌≤◌, ◌⊎◌, List, [], ◌∷◌, ◌++◌, length, take, map, Bool, true, false}
+use Rattle.std.specs.Prelude.{codes, not, nat_eq, String}
 use Rattle.std.specs.List.{list_all, slice_index_or}
 use Rattle.std.specs.String.{string_bytes}
 use Rattle.std.specs.declared.alloc.Global.{Global}
@@ -24,13 +25,14 @@ pub record IsCommand (words files : List (List ℕ)) : Type 0 where
 abbrev pub BeginsCommand : List (List ℕ) → Type 0
 BeginsCommand words = (more files : List (List ℕ)) × IsCommand (words ++ more) files
 
--- The words are no command. The wrong word is the first one up to which no command begins so, or the number of words
--- where more are wanted.
+-- The words are no command, and their longest prefix that some command starts with has this many words.
 pub record IsUsage (words : List (List ℕ)) (word : ℕ) : Type 0 where
   pub within : word ≤ length words
   pub before : BeginsCommand (take word words)
   pub wrong : word < length words → BeginsCommand (take (suc word) words) → ⊥
   pub wanted : word ≡ length words → (files : List (List ℕ)) → IsCommand words files → ⊥
+
+-- No public contract cites the two definitions that follow.
 
 -- the first wrong file word by its place from 0, or their number where more are wanted
 pub record IsWrongFile (files : List (List ℕ)) (place : ℕ) : Type 0 where

@@ -1,5 +1,6 @@
 -- Programs of constants: their texts and what they do.
-use Rattle.std.specs.Prelude.{ℕ, zero, suc, ◌≡◌, ◌<◌, ◌≤◌, ◌+◌, ◌*◌, ◌^◌, ◌⊎◌, List, [], ◌∷◌, ◌++◌, length, map, All, Option, None, Some, codes}
+use Rattle.std.specs.Prelude.{ℕ, zero, suc, ◌≡◌, ◌<◌, ◌≤◌, ◌+◌, ◌*◌, ◌^◌, ◌⊎◌, List, [], ◌∷◌, ◌++◌, length, map, All}
+use Rattle.std.specs.Prelude.{Option, None, Some, codes}
 use Rattle.std.specs.List.{flat_map}
 use Rattle.std.specs.Fmt.{decimal}
 use Rattle.qc_terms.specs.declared.state.Event.{Event}
@@ -21,21 +22,22 @@ abbrev pub return_text : ℕ → List ℕ
 return_text word = codes "return(" ++ decimal word ++ codes "); }"
 
 -- nothing, or one line feed
-abbrev pub IsEnd : List ℕ → Type 0
-IsEnd bytes = (bytes ≡ []) ⊎ (bytes ≡ 10 ∷ [])
+abbrev pub IsOptionalLineFeed : List ℕ → Type 0
+IsOptionalLineFeed bytes = (bytes ≡ []) ⊎ (bytes ≡ 10 ∷ [])
 
 -- the bytes are the return of this word, and perhaps a line feed after it
 abbrev pub IsReturn : List ℕ → ℕ → Type 0
-IsReturn bytes word = (last : List ℕ) × IsEnd last × (bytes ≡ return_text word ++ last)
+IsReturn bytes word = (last : List ℕ) × IsOptionalLineFeed last × (bytes ≡ return_text word ++ last)
 
+-- the text of a program: the fixed head, each output in order, and the return
 unfoldable pub program_text : ConstantProgram → List ℕ
 program_text p =
     codes "target byteorder little wordsize 32; main() { " ++ (flat_map output_text p.outputs ++ return_text p.returned)
 
 -- the bytes are the program's text, and perhaps a line feed after it
-pub record Spells (bytes : List ℕ) (p : ConstantProgram) : Type 0 where
+pub record IsTextOf (bytes : List ℕ) (p : ConstantProgram) : Type 0 where
   pub program : IsConstantProgram p
-  pub text : (last : List ℕ) × IsEnd last × (bytes ≡ program_text p ++ last)
+  pub text : (last : List ℕ) × IsOptionalLineFeed last × (bytes ≡ program_text p ++ last)
 
 -- a statement puts out a word, or ends the program with a word
 pub data Statement : Type 0 where
@@ -80,18 +82,21 @@ program_shows p n = (program_state p n).seen
 abbrev pub weight_of : ConstantProgram → ℕ
 weight_of p = 2 * length (statements_of p) + 4
 
--- no output stands at the front
+-- No public contract cites the three definitions that follow.
+
+-- no output is a prefix of the bytes
 abbrev pub HasNoOutput : List ℕ → Type 0
 HasNoOutput bytes = (word : ℕ) (rest : List ℕ) → word < 2 ^ 32 → bytes ≡ output_text word ++ rest → ⊥
 
--- the bytes are these outputs, of which there are few enough, and then what has no output in front
+-- the bytes are these outputs, of which there are few enough, and then what no output is a prefix of
 pub record StartsWithOutputs (bytes words rest : List ℕ) : Type 0 where
   pub few : length words ≤ 1000
   pub small : All (λ word. word < 2 ^ 32) words
   pub split : bytes ≡ flat_map output_text words ++ rest
   pub no_more : HasNoOutput rest
 
--- more outputs stand at the front than a program has
+-- a prefix of the bytes is more outputs than a program has
 abbrev pub HasManyOutputs : List ℕ → Type 0
 HasManyOutputs bytes =
-    (words rest : List ℕ) × (length words ≡ 1001) × All (λ word. word < 2 ^ 32) words × (bytes ≡ flat_map output_text words ++ rest)
+    (words rest : List ℕ) × (length words ≡ 1001) × All (λ word. word < 2 ^ 32) words
+    × (bytes ≡ flat_map output_text words ++ rest)

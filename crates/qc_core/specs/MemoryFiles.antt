@@ -3,7 +3,7 @@ use Rattle.std.specs.Prelude.{ℕ, List, map, String, Vec, string_bytes, ◌≡�
 use Rattle.std.specs.List.{slice_get}
 use Rattle.std.specs.FinMap.{from_entries, get}
 use Rattle.std.specs.declared.alloc.Global.{Global}
-use Rattle.qc_core.specs.Calls.{NextFails}
+use Rattle.qc_core.specs.Calls.{NextFails, calls_of, failing_of}
 use Rattle.qc_core.specs.Files.{Files}
 use Rattle.qc_core.specs.declared.memory_files.MemShelf.{MemShelf}
 
@@ -15,7 +15,7 @@ File = String Global × Vec ℕ Global
 abbrev pub entries_of : List File → List (List ℕ × List ℕ)
 entries_of files = map (λ file. (string_bytes file.0, file.1.items)) files
 
--- the map of the pairs; of two with one name the first counts
+-- the map of the pairs; a name has the content of its first pair
 abbrev pub files_from : List File → Files
 files_from files = from_entries (entries_of files)
 
@@ -23,25 +23,15 @@ files_from files = from_entries (entries_of files)
 abbrev pub files_of : MemShelf → Files
 files_of shelf = files_from shelf.files.items
 
--- how many calls of a shelf have failed
-abbrev pub faults_of : MemShelf → ℕ
-faults_of shelf = shelf.calls.faults
-
--- the numbers of the calls that are to fail, and how many calls were made
-abbrev pub failing_of : MemShelf → List ℕ
-failing_of shelf = shelf.calls.failing.items
-
-abbrev pub calls_of : MemShelf → ℕ
-calls_of shelf = shelf.calls.made
-
 -- The next read of a file fails: its number is one of those that are to fail, or the file isn't there.
 abbrev pub FailsToRead : MemShelf → List ℕ → Type 0
 FailsToRead shelf name =
-    NextFails (failing_of shelf) (calls_of shelf) ⊎ (get (files_of shelf) name ≡ None)
+    NextFails (failing_of shelf.calls) (calls_of shelf.calls) ⊎ (get (files_of shelf) name ≡ None)
 
 -- no pair before the place has the name
 abbrev pub NoneBefore : List File → List ℕ → ℕ → Type 0
-NoneBefore files name place = (k : ℕ) → k < place → (file : File) → slice_get files k ≡ Some file → string_bytes file.0 ≢ name
+NoneBefore files name place = (k : ℕ) → k < place → (file : File) → slice_get files k ≡ Some file →
+    string_bytes file.0 ≢ name
 
 -- the pair at the place is the first of the name
 pub record IsFirst (files : List File) (name : List ℕ) (place : ℕ) : Type 0 where

@@ -2,7 +2,7 @@
 use Rattle.std.specs.Prelude.{ℕ, ◌+◌, ◌-◌, ◌*◌, List, [], ◌∷◌, Bool, true, false, not, nat_eq}
 use Rattle.std.specs.Char.{is_ascii_digit}
 
--- the number of digits that follow a number
+-- the number whose decimal digits are those of n and then these
 abbrev pub number_on : ℕ → List ℕ → ℕ
 number_on n [] = n
 number_on n (digit ∷ digits) = number_on (10 * n + (digit - 48)) digits

@@ -1,4 +1,5 @@
-/// Why a file is refused. A file is named by its place among the file words, from 1.
+/// Why a file is refused. The files of a command are counted from 1 in the order of its words, and the forms 1 to 4 are
+/// those that the files 1 to 4 are to have.
 #[derive(Clone, Copy, Debug, PartialEq, Eq)]
 pub enum Fault {
     /// The file has more than 4,194,304 bytes.
@@ -14,10 +15,9 @@ pub enum Status {
     Done,
     /// A file is refused, and no file was written.
     Refused { fault: Fault },
-    /// The words are no command; `word` is the first wrong one, counted from 0, or the number of words where more are
-    /// wanted.
+    /// The words are no command. Some command starts with as many of them as `word` says, but none with one more.
     Usage { word: usize },
-    /// A file could not be read. It is named by its place among the file words, from 1.
+    /// The file of this number could not be read.
     ReadFault { file: usize },
     /// The image could not be written, or not whole.
     WriteFault,

@@ -2,9 +2,10 @@
 ghost use Rattle.std.specs.Prelude.{◌≡◌, ◌+◌, ◌*◌, ◌++◌, length, IfOk, OnOk};
 ghost use Rattle.std.specs.List.{flat_map};
 ghost use Rattle.qc_core.specs.Agreement.{Agrees};
-ghost use Rattle.qc_core.specs.Code.{image_of, instance_bytes, load_constant, output_bytes, return_bytes};
+ghost use Rattle.qc_core.specs.Code.{image_of, load_constant, output_bytes, return_bytes};
+ghost use Rattle.qc_descr.specs.Encoding.{instance_bytes};
 ghost use Rattle.qc_core.specs.ConstantProgram.{IsConstantProgram};
-ghost use Rattle.qc_core.specs.Instance.{IsInstance};
+ghost use Rattle.qc_descr.specs.Encoding.{IsInstance};
 ghost use Rattle.qc_core.specs.Tin32.{tin32};
 ghost use Rattle.qc_descr.specs.Loading.{FitsMachine};
 ghost use Rattle.qc_descr.specs.Valid.{IsValid};
@@ -13,8 +14,9 @@ use crate::constants::ConstantProgram;
 use crate::encoding::encode;
 use qc_descr::{Description, Instance, Operands, one_instance};
 use qc_terms::Image;
+use qc_text::NoMemory;
 use sqlite_items::Items;
-use std::alloc::{AllocError, Global};
+use std::alloc::Global;
 
 /// The numbers of the instructions in the description.
 const LOAD_CONSTANT: u32 = 0;
@@ -33,10 +35,11 @@ fn push_instruction(
     descr: &Description,
     instruction: u32,
     operands: &[u64],
-) -> Result<(), AllocError>
+) -> Result<(), NoMemory>
     requires valid { IsValid descr.now }
     requires instance { IsInstance descr.now instruction operands.now }
-    ensures { OnOk result (code.new.items ≡ code.old.items ++ instance_bytes descr.now (record { number = instruction; operands = operands.now })) }
+    ensures { OnOk result (code.new.items ≡ code.old.items
+        ++ instance_bytes descr.now (record { number = instruction; operands = operands.now })) }
 {
     let operands = Operands::from_slice(alloc, operands)?;
     let instance = Instance {
@@ -53,9 +56,8 @@ fn push_constant(
     code: &mut Vec<u8>,
     descr: &Description,
     word: u32,
-) -> Result<(), AllocError>
-    requires valid { IsValid descr.now }
-    requires machine { descr.now ≡ tin32 }
+) -> Result<(), NoMemory>
+    requires { descr.now ≡ tin32 }
     ensures { OnOk result (code.new.items ≡ code.old.items ++ instance_bytes descr.now (load_constant word)) }
 {
     push_instruction(alloc, code, descr, LOAD_CONSTANT, &[CELL, u64::from(word)])
@@ -66,9 +68,8 @@ fn push_output(
     code: &mut Vec<u8>,
     descr: &Description,
     word: u32,
-) -> Result<(), AllocError>
-    requires valid { IsValid descr.now }
-    requires machine { descr.now ≡ tin32 }
+) -> Result<(), NoMemory>
+    requires { descr.now ≡ tin32 }
     ensures { OnOk result (code.new.items ≡ code.old.items ++ output_bytes descr.now word) }
 {
     push_constant(alloc, code, descr, word)?;
@@ -80,9 +81,8 @@ fn push_return(
     code: &mut Vec<u8>,
     descr: &Description,
     word: u32,
-) -> Result<(), AllocError>
-    requires valid { IsValid descr.now }
-    requires machine { descr.now ≡ tin32 }
+) -> Result<(), NoMemory>
+    requires { descr.now ≡ tin32 }
     ensures { OnOk result (code.new.items ≡ code.old.items ++ return_bytes descr.now word) }
 {
     push_constant(alloc, code, descr, word)?;
@@ -95,9 +95,8 @@ fn push_outputs(
     code: &mut Vec<u8>,
     descr: &Description,
     words: &[u32],
-) -> Result<(), AllocError>
-    requires valid { IsValid descr.now }
-    requires machine { descr.now ≡ tin32 }
+) -> Result<(), NoMemory>
+    requires { descr.now ≡ tin32 }
     ensures { OnOk result (code.new.items ≡ code.old.items ++ flat_map (output_bytes descr.now) words.now) }
 {
     for word in words {
@@ -111,8 +110,7 @@ pub fn compile(
     alloc: Global,
     descr: &Description,
     program: &ConstantProgram,
-) -> Result<Image, AllocError>
-    requires valid { IsValid descr.now }
+) -> Result<Image, NoMemory>
     requires machine { descr.now ≡ tin32 }
     requires program { IsConstantProgram program.now }
     ensures image { IfOk result (λ image. image ≡ image_of descr.now program.now) }

@@ -1,9 +1,13 @@
 //! The commands, and the one call that the program makes.
-ghost use Rattle.std.specs.Prelude.{◌≡◌, ◌≤◌, ℕ, List, drop, string_bytes, IfOk};
-ghost use Rattle.qc_core.specs.Answer.{Finishes, IsAnswer, KeepsOutFaults, KeepsShelfFaults, Leaves, TellsImage, TellsRefusal};
+ghost use Rattle.std.specs.Prelude.{◌≡◌, ◌≤◌, ℕ, List, Some, drop, string_bytes, IfOk};
+ghost use Rattle.qc_core.specs.declared.answer.Fault.{Fault as Refusal};
+ghost use Rattle.qc_core.specs.Answer.{IsAnswer, IsRefusalStatus, IsRefused, KeepsOutFaults, KeepsShelfFaults};
+ghost use Rattle.qc_core.specs.Answer.{AnswerLeaves, outside_of};
+ghost use Rattle.qc_core.specs.Stages.{Finishes, TellsImage, TellsRefusal};
 ghost use Rattle.qc_core.specs.Code.{image_of};
-ghost use Rattle.qc_core.specs.Command.{texts_of, IsCommand};
+ghost use Rattle.qc_core.specs.Command.{texts_of, IsCommand, IsUsage};
 ghost use Rattle.qc_core.specs.ConstantProgram.{IsConstantProgram};
+ghost use Rattle.qc_core.specs.Files.{Files};
 ghost use Rattle.qc_core.specs.Headline.{IsCompiledTold};
 ghost use Rattle.qc_core.specs.ImageFile.{image_bytes};
 ghost use Rattle.qc_core.specs.Tin32 as spec;
@@ -19,13 +23,14 @@ use crate::outside::{Out, Shelf, StoreEnd};
 use crate::words::wrong_word;
 use qc_descr::one_instance;
 use qc_terms::Image;
-use std::alloc::{AllocError, Global};
+use qc_text::NoMemory;
+use std::alloc::Global;
 
 /// The number of the image among the files.
 const IMAGE: usize = 5;
 
 /// The image of a program, and its file.
-fn image_file(alloc: Global, program: &ConstantProgram) -> Result<(Image, Vec<u8>), AllocError>
+fn image_file(alloc: Global, program: &ConstantProgram) -> Result<(Image, Vec<u8>), NoMemory>
     requires { IsConstantProgram program.now }
     ensures image { IfOk result (λ r. r.0 ≡ image_of spec.tin32 program.now) }
     ensures file { IfOk result (λ r. r.1.items ≡ image_bytes r.0) }
@@ -38,7 +43,8 @@ fn image_file(alloc: Global, program: &ConstantProgram) -> Result<(Image, Vec<u8
 
 /// Puts the line of an image that was compiled.
 fn tell_image<O: Out>(alloc: Global, out: &mut O, image: &Image) -> Status
-    ensures told { TellsImage image.now (O.written out.old) (O.written out.new) (O.faults out.old) (O.faults out.new) result }
+    ensures told { TellsImage image.now
+        (O.written out.old) (O.written out.new) (O.faults out.old) (O.faults out.new) result }
     ensures kept { KeepsOutFaults result (O.faults out.old) (O.faults out.new) }
     ensures later { O.faults out.old ≤ O.faults out.new }
 {
@@ -55,7 +61,8 @@ fn tell_image<O: Out>(alloc: Global, out: &mut O, image: &Image) -> Status
 
 /// Puts the line of a refusal. Where this fails the refusal stands.
 fn tell_refusal<O: Out>(alloc: Global, out: &mut O, fault: Fault) -> Status
-    ensures told { TellsRefusal fault (O.written out.old) (O.written out.new) (O.faults out.old) (O.faults out.new) result }
+    ensures told { TellsRefusal fault
+        (O.written out.old) (O.written out.new) (O.faults out.old) (O.faults out.new) result }
     ensures kept { KeepsOutFaults result (O.faults out.old) (O.faults out.new) }
     ensures later { O.faults out.old ≤ O.faults out.new }
 {
@@ -83,8 +90,8 @@ fn finish<S: Shelf, O: Out>(
     ensures out_kept { KeepsOutFaults result (O.faults out.old) (O.faults out.new) }
     ensures out_later { O.faults out.old ≤ O.faults out.new }
     ensures finished { Finishes program.now (string_bytes name.now)
-        (record { files = S.files shelf.old; shelf_faults = S.faults shelf.old; written = O.written out.old; out_faults = O.faults out.old })
-        (record { files = S.files shelf.new; shelf_faults = S.faults shelf.new; written = O.written out.new; out_faults = O.faults out.new })
+        (outside_of (S.files shelf.old) (S.faults shelf.old) (O.written out.old) (O.faults out.old))
+        (outside_of (S.files shelf.new) (S.faults shelf.new) (O.written out.new) (O.faults out.new))
         result }
 {
     let (image, file) = match image_file(alloc, program) {
@@ -110,9 +117,9 @@ fn compile_command<S: Shelf, O: Out>(
     ensures shelf_later { S.faults shelf.old ≤ S.faults shelf.new }
     ensures out_kept { KeepsOutFaults result (O.faults out.old) (O.faults out.new) }
     ensures out_later { O.faults out.old ≤ O.faults out.new }
-    ensures leaves { Leaves (drop 1 (texts_of words.now.items))
-        (record { files = S.files shelf.old; shelf_faults = S.faults shelf.old; written = O.written out.old; out_faults = O.faults out.old })
-        (record { files = S.files shelf.new; shelf_faults = S.faults shelf.new; written = O.written out.new; out_faults = O.faults out.new })
+    ensures leaves { AnswerLeaves (drop 1 (texts_of words.now.items))
+        (outside_of (S.files shelf.old) (S.faults shelf.old) (O.written out.old) (O.faults out.old))
+        (outside_of (S.files shelf.new) (S.faults shelf.new) (O.written out.new) (O.faults out.new))
         result }
 {
     match read_inputs(alloc, words, shelf) {
@@ -136,11 +143,18 @@ pub fn quick<S: Shelf, O: Out>(
     ensures out_kept { KeepsOutFaults result (O.faults out.old) (O.faults out.new) }
     ensures out_later { O.faults out.old ≤ O.faults out.new }
     ensures answer { IsAnswer (texts_of words.now.items)
-        (record { files = S.files shelf.old; shelf_faults = S.faults shelf.old; written = O.written out.old; out_faults = O.faults out.old })
-        (record { files = S.files shelf.new; shelf_faults = S.faults shelf.new; written = O.written out.new; out_faults = O.faults out.new })
+        (outside_of (S.files shelf.old) (S.faults shelf.old) (O.written out.old) (O.faults out.old))
+        (outside_of (S.files shelf.new) (S.faults shelf.new) (O.written out.new) (O.faults out.new))
         result }
+    // Words that are no command are answered by the first wrong one.
+    ensures usage { (word : ℕ) → IsUsage (texts_of words.now.items) word → result ≡ Status.Usage word }
+    // Files that are refused are answered by their fault, unless memory is wanting or a read fails before that.
+    ensures refused { (names : List (List ℕ)) (files : Files) (fault : Refusal) →
+        IsCommand (texts_of words.now.items) names → S.files shelf.old ≡ Some files → IsRefused files names fault →
+        IsRefusalStatus fault (S.faults shelf.old) (S.faults shelf.new) result }
     // On every input the image that was written shows, run on the machine, what the program shows.
-    ensures compiled { result ≡ Status.Done → (names : List (List ℕ)) × IsCommand (texts_of words.now.items) names × IsCompiledTold names (S.files shelf.old) (S.files shelf.new) }
+    ensures compiled { result ≡ Status.Done → (names : List (List ℕ)) × IsCommand (texts_of words.now.items) names
+        × IsCompiledTold names (S.files shelf.old) (S.files shelf.new) }
 {
     one_instance();
     match wrong_word(words) {

@@ -1,6 +1,8 @@
-ghost use Rattle.std.specs.Prelude.{◌≡◌, ℕ, ◌<◌, ◌≤◌, ◌↔◌, ◌/◌, List, length, sum, take, drop, slice_get, slice_index, Some, IsSome, IsNone, IfSome, IsTrue};
+ghost use Rattle.std.specs.Prelude.{◌≡◌, ℕ, ◌<◌, ◌≤◌, ◌↔◌, ◌/◌, List, length, sum, take, drop, slice_get, slice_index};
+ghost use Rattle.std.specs.Prelude.{Some, IsSome, IsNone, IfSome, IsTrue};
 ghost use Rattle.std.specs.List.{list_all};
-ghost use Rattle.qc_core.specs.Decoding.{IsCodedBy, IsNarrow};
+ghost use Rattle.qc_descr.specs.Description.{IsNarrow};
+ghost use Rattle.qc_descr.specs.Encoding.{IsCodedBy};
 ghost use Rattle.qc_core.specs.Decoding.{piece_value as value_of_piece};
 ghost use Rattle.qc_core.specs.Decoding.{operand_in_byte as value_in_byte};
 ghost use Rattle.qc_core.specs.Decoding.{operand_in_bytes as value_in_bytes};
@@ -130,7 +132,8 @@ fn decode_operand(
     requires kind { slice_get (kinds_of instruction.now) number ≡ Some kind }
     requires size { length bytes.now ≡ size_of instruction.now }
     ensures some { IfSome result (IsInRange descr.now kind) }
-    ensures only { (operands : List ℕ) → IsCodedBy descr.now instruction.now operands bytes.now → result ≡ Some (slice_index operands number) }
+    ensures only { (operands : List ℕ) → IsCodedBy descr.now instruction.now operands bytes.now →
+        result ≡ Some (slice_index operands number) }
 {
     pieces_stand();
     let operand = operand_in_bytes(&instruction.coding, descr.facts.order, number, bytes);
@@ -151,8 +154,10 @@ fn decode_instruction(
     requires limits { IsWithinLimits descr.now }
     requires covered { IsCovered descr.now instruction.now }
     requires few { length instruction.now.operands ≤ 8 }
-    ensures some { IfSome result (λ operands. IsCodedBy descr.now instruction.now operands.items (take (size_of instruction.now) memory.now)) }
-    ensures none { IsNone result → (operands : List ℕ) → IsCodedBy descr.now instruction.now operands (take (size_of instruction.now) memory.now) → ⊥ }
+    ensures some { IfSome result (λ operands.
+        IsCodedBy descr.now instruction.now operands.items (take (size_of instruction.now) memory.now)) }
+    ensures none { IsNone result → (operands : List ℕ) →
+        IsCodedBy descr.now instruction.now operands (take (size_of instruction.now) memory.now) → ⊥ }
 {
     let size = coding_size(&instruction.coding);
     if memory.len() < size {
@@ -192,7 +197,8 @@ pub fn decode(
     at: u64,
 ) -> Option<(Instance, usize)>
     requires { IsValid descr.now }
-    ensures found { IfSome result (λ r. EncodesAt descr.now memory.now at r.0.instruction r.0.operands.items (take r.1 (drop at memory.now))) }
+    ensures found { IfSome result (λ r.
+        EncodesAt descr.now memory.now at r.0.instruction r.0.operands.items (take r.1 (drop at memory.now))) }
     ensures size { IfSome result (λ r. length (take r.1 (drop at memory.now)) ≡ r.1) }
     ensures most { IfSome result (λ r. r.1 ≤ 16) }
     ensures none { IsNone result → IsUndecodable descr.now memory.now at }

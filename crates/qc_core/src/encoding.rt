@@ -1,6 +1,6 @@
 ghost use Rattle.std.specs.Prelude.{◌≡◌, ◌<◌, ◌≤◌, ◌/◌, length, sum, take, drop, slice_get, IsTrue, IfSome};
 ghost use Rattle.std.specs.List.{list_all};
-ghost use Rattle.qc_core.specs.Instance.{IsInstance};
+ghost use Rattle.qc_descr.specs.Encoding.{IsInstance};
 ghost use Rattle.qc_descr.specs.Description.{size_of};
 ghost use Rattle.qc_descr.specs.Encoding.{Encodes, coded_bytes};
 ghost use Rattle.qc_descr.specs.Valid.{IsValid, is_token};
@@ -21,7 +21,7 @@ pub fn coding_size(coding: &Coding) -> usize
     bits / 8
 }
 
-/// Writes a coding's bytes under the operands at the front of `into`, and answers their number.
+/// Puts the bytes of a coding under the operands into the first places of `into`, and answers how many there are.
 fn encode_coding(coding: &Coding, order: Order, operands: &[u64], into: &mut [u8; 16]) -> usize
     requires few { sum coding.now.tokens ≤ 128 }
     requires tokens { IsTrue (list_all is_token coding.now.tokens) }
@@ -38,13 +38,15 @@ fn encode_coding(coding: &Coding, order: Order, operands: &[u64], into: &mut [u8
     size
 }
 
-/// Writes the instruction's bytes at the front of `into` and answers their number; the rest of `into` stays.
+/// Puts the bytes of an instance into the first places of `into`, and answers how many there are. No other place
+/// changes.
 pub fn encode(descr: &Description, instance: &Instance, into: &mut [u8; 16]) -> usize
     requires valid { IsValid descr.now }
     requires instance { IsInstance descr.now instance.now.instruction instance.now.operands.items }
     ensures encoded { Encodes descr.now instance.now.instruction instance.now.operands.items (take result into.new) }
     ensures rest { drop result into.new ≡ drop result into.old }
-    ensures size { IfSome (slice_get descr.now.instructions instance.now.instruction) (λ instruction. result ≡ size_of instruction) }
+    ensures size { IfSome (slice_get descr.now.instructions instance.now.instruction) (λ instruction.
+        result ≡ size_of instruction) }
     ensures some { 0 < result }
     ensures most { result ≤ 16 }
 {

@@ -1,9 +1,10 @@
 //! Images as files.
-ghost use Rattle.std.specs.Prelude.{◌≡◌, ◌<◌, ◌^◌, IfOk, length};
-ghost use Rattle.qc_core.specs.ImageFile.{image_bytes, order_byte as byte_of_order};
+ghost use Rattle.std.specs.Prelude.{◌≡◌, IfOk};
+ghost use Rattle.qc_core.specs.ImageFile.{IsWritable, image_bytes, order_byte as byte_of_order};
 
 use qc_terms::{Image, Order};
-use std::alloc::{AllocError, Global};
+use qc_text::NoMemory;
+use std::alloc::Global;
 
 fn order_byte(order: Order) -> u8
     ensures { result ≡ byte_of_order order }
@@ -14,12 +15,10 @@ fn order_byte(order: Order) -> u8
     }
 }
 
-/// The bytes of an image's file: a mark, the word's width, the byte order, the lengths of the code and the data in
-/// four bytes each, the lowest first, and then the code and the data.
-#[tactic(auto, unfolding(crate::specs::ImageFile::image_bytes))]
-pub fn write_image(alloc: Global, image: &Image) -> Result<Vec<u8>, AllocError>
-    requires code { length image.now.code < 2 ^ 32 }
-    requires initial { length image.now.initial < 2 ^ 32 }
+/// The bytes of an image's file, whose layout `image_bytes` gives.
+#[tactic(auto, unfolding(crate::specs::ImageFile::image_bytes, qc_descr::specs::Loading::data_limit))]
+pub fn write_image(alloc: Global, image: &Image) -> Result<Vec<u8>, NoMemory>
+    requires { IsWritable image.now }
     ensures { IfOk result (λ bytes. bytes.items ≡ image_bytes image.now) }
 {
     let mut bytes = Vec::new(alloc);

@@ -1,8 +1,10 @@
 //! The files that a command reads, in the order of its words. Each is tested before the next is read.
-ghost use Rattle.std.specs.Prelude.{◌≡◌, ◌≤◌, ◌<◌, ◌↔◌, List, ℕ, length, drop, string_bytes, IfOk, IfErr, IfSome, IsTrue, MatchResult, OnOk};
-ghost use Rattle.qc_core.specs.Answer.{HasForm, GoodBefore, IsAccepted, KeepsShelfFaults, name_of, StopsAt, StopsReading};
+ghost use Rattle.std.specs.Prelude.{◌≡◌, ◌≤◌, ◌<◌, ◌↔◌, List, ℕ, length, drop, string_bytes, IfOk, IfErr, IfSome};
+ghost use Rattle.std.specs.Prelude.{IsTrue, MatchResult, OnOk};
+ghost use Rattle.qc_core.specs.Answer.{HasForm, AcceptedBefore, IsAccepted, KeepsShelfFaults, name_of};
+ghost use Rattle.qc_core.specs.Stages.{StopsAt, StopsReading};
 ghost use Rattle.qc_core.specs.Command.{texts_of, IsCommand};
-ghost use Rattle.qc_core.specs.ConstantProgram.{IsConstantProgram, Spells};
+ghost use Rattle.qc_core.specs.ConstantProgram.{IsConstantProgram, IsTextOf};
 ghost use Rattle.qc_core.specs.Files.{content_of, file_limit};
 
 use crate::answer::{Fault, Status};
@@ -42,9 +44,11 @@ fn read_input<S: Shelf>(
     name: &String,
     file: usize,
 ) -> Result<Vec<u8>, Status>
-    ensures content { IfOk result (λ bytes. IfSome (S.files shelf.old) (λ files. bytes.items ≡ content_of files (string_bytes name.now))) }
+    ensures content { IfOk result (λ bytes. IfSome (S.files shelf.old) (λ files.
+        bytes.items ≡ content_of files (string_bytes name.now))) }
     ensures limit { IfOk result (λ bytes. length bytes.items ≤ file_limit) }
-    ensures stops { IfErr result (StopsAt file (string_bytes name.now) (S.files shelf.old) (S.faults shelf.old) (S.faults shelf.new)) }
+    ensures stops { IfErr result (StopsAt file (string_bytes name.now)
+        (S.files shelf.old) (S.faults shelf.old) (S.faults shelf.new)) }
     ensures files { S.files shelf.new ≡ S.files shelf.old }
     ensures kept { MatchResult result (λ _. S.faults shelf.new ≡ S.faults shelf.old)
         (λ status. KeepsShelfFaults status (S.faults shelf.old) (S.faults shelf.new)) }
@@ -68,8 +72,11 @@ fn read_stand_in<S: Shelf>(
 ) -> Result<(), Status>
     requires first { 1 ≤ file }
     requires last { file ≤ 3 }
-    ensures good { OnOk result (IfSome (S.files shelf.old) (λ files. (length (content_of files (string_bytes name.now)) ≤ file_limit) × HasForm file (content_of files (string_bytes name.now)))) }
-    ensures stops { IfErr result (StopsAt file (string_bytes name.now) (S.files shelf.old) (S.faults shelf.old) (S.faults shelf.new)) }
+    ensures good { OnOk result (IfSome (S.files shelf.old) (λ files.
+        (length (content_of files (string_bytes name.now)) ≤ file_limit)
+        × HasForm file (content_of files (string_bytes name.now)))) }
+    ensures stops { IfErr result (StopsAt file (string_bytes name.now)
+        (S.files shelf.old) (S.faults shelf.old) (S.faults shelf.new)) }
     ensures files { S.files shelf.new ≡ S.files shelf.old }
     ensures kept { MatchResult result (λ _. S.faults shelf.new ≡ S.faults shelf.old)
         (λ status. KeepsShelfFaults status (S.faults shelf.old) (S.faults shelf.new)) }
@@ -91,8 +98,11 @@ fn read_constant_program<S: Shelf>(
     name: &String,
 ) -> Result<ConstantProgram, Status>
     ensures program { IfOk result IsConstantProgram }
-    ensures spells { IfOk result (λ p. IfSome (S.files shelf.old) (λ files. (length (content_of files (string_bytes name.now)) ≤ file_limit) × Spells (content_of files (string_bytes name.now)) p)) }
-    ensures stops { IfErr result (StopsAt 4 (string_bytes name.now) (S.files shelf.old) (S.faults shelf.old) (S.faults shelf.new)) }
+    ensures spells { IfOk result (λ p. IfSome (S.files shelf.old) (λ files.
+        (length (content_of files (string_bytes name.now)) ≤ file_limit)
+        × IsTextOf (content_of files (string_bytes name.now)) p)) }
+    ensures stops { IfErr result (StopsAt 4 (string_bytes name.now)
+        (S.files shelf.old) (S.faults shelf.old) (S.faults shelf.new)) }
     ensures files { S.files shelf.new ≡ S.files shelf.old }
     ensures kept { MatchResult result (λ _. S.faults shelf.new ≡ S.faults shelf.old)
         (λ status. KeepsShelfFaults status (S.faults shelf.old) (S.faults shelf.new)) }
@@ -123,8 +133,10 @@ pub(crate) fn file_word(words: &Vec<String>, file: usize) -> &String
 /// Reads the files that stand for the two texts of the description and for the tables.
 fn read_stand_ins<S: Shelf>(alloc: Global, words: &Vec<String>, shelf: &mut S) -> Result<(), Status>
     requires { IsCommand (texts_of words.now.items) (drop 1 (texts_of words.now.items)) }
-    ensures good { OnOk result (IfSome (S.files shelf.old) (λ files. GoodBefore files (drop 1 (texts_of words.now.items)) 4)) }
-    ensures stops { IfErr result (StopsReading (drop 1 (texts_of words.now.items)) (S.files shelf.old) (S.faults shelf.old) (S.faults shelf.new)) }
+    ensures good { OnOk result (IfSome (S.files shelf.old) (λ files.
+        AcceptedBefore files (drop 1 (texts_of words.now.items)) 4)) }
+    ensures stops { IfErr result (StopsReading (drop 1 (texts_of words.now.items))
+        (S.files shelf.old) (S.faults shelf.old) (S.faults shelf.new)) }
     ensures files { S.files shelf.new ≡ S.files shelf.old }
     ensures kept { MatchResult result (λ _. S.faults shelf.new ≡ S.faults shelf.old)
         (λ status. KeepsShelfFaults status (S.faults shelf.old) (S.faults shelf.new)) }
@@ -147,8 +159,10 @@ pub(crate) fn read_inputs<S: Shelf>(
 ) -> Result<ConstantProgram, Status>
     requires { IsCommand (texts_of words.now.items) (drop 1 (texts_of words.now.items)) }
     ensures program { IfOk result IsConstantProgram }
-    ensures accepted { IfOk result (λ p. IfSome (S.files shelf.old) (λ files. IsAccepted files (drop 1 (texts_of words.now.items)) p)) }
-    ensures stops { IfErr result (StopsReading (drop 1 (texts_of words.now.items)) (S.files shelf.old) (S.faults shelf.old) (S.faults shelf.new)) }
+    ensures accepted { IfOk result (λ p. IfSome (S.files shelf.old) (λ files.
+        IsAccepted files (drop 1 (texts_of words.now.items)) p)) }
+    ensures stops { IfErr result (StopsReading (drop 1 (texts_of words.now.items))
+        (S.files shelf.old) (S.faults shelf.old) (S.faults shelf.new)) }
     ensures files { S.files shelf.new ≡ S.files shelf.old }
     ensures kept { MatchResult result (λ _. S.faults shelf.new ≡ S.faults shelf.old)
         (λ status. KeepsShelfFaults status (S.faults shelf.old) (S.faults shelf.new)) }

@@ -4,24 +4,27 @@ ghost use Rattle.qc_core.specs.declared.answer.Fault.{Fault};
 ghost use Rattle.qc_core.specs.declared.answer.Status.{Status};
 ghost use Rattle.qc_core.specs.declared.answer.Status.TheVariants.{Done, NoMemory};
 ghost use Rattle.qc_core.specs.declared.constants.ConstantProgram.{ConstantProgram};
-ghost use Rattle.qc_core.specs.Answer.{IsAccepted, IsRefused, Leaves, Outside};
+ghost use Rattle.qc_core.specs.Answer.{IsAccepted, IsRefused, AnswerLeaves, Outside};
 ghost use Rattle.qc_core.specs.Code.{image_of};
+ghost use Rattle.qc_descr.specs.Encoding.{DecodesInto, InstanceOf};
 ghost use Rattle.qc_core.specs.Command.{IsCommand, IsUsage};
-ghost use Rattle.qc_core.specs.ConstantProgram.{Spells};
+ghost use Rattle.qc_core.specs.ConstantProgram.{IsTextOf};
 ghost use Rattle.qc_core.specs.Example.{seven, seven_image, seven_shows, seven_text};
 ghost use Rattle.qc_core.specs.Faults.{Rose};
 ghost use Rattle.qc_core.specs.Files.{Files};
 ghost use Rattle.qc_core.specs.ImageFile.{HasFile, image_bytes};
 ghost use Rattle.qc_core.specs.Tin32.{tin32};
 ghost use Rattle.qc_terms.specs.declared.image.Image.{Image};
-ghost use Rattle.qc_descr.specs.Loading.{loaded};
-ghost use Rattle.qc_descr.specs.Step.{Progress, RunsTo, observed};
+ghost use Rattle.qc_descr.specs.declared.description.Description.{Description};
+ghost use Rattle.qc_descr.specs.Loading.{loaded_state};
+ghost use Rattle.qc_descr.specs.Step.{Progress, RunsTo, observation_of};
+ghost use Rattle.qc_descr.specs.Valid.{IsValid};
 
 use qc_descr::one_instance;
 
 /// A text spells at most one program.
 pub fn one_program()
-    ensures { (bytes : List ℕ) (p q : ConstantProgram) → Spells bytes p → Spells bytes q → p ≡ q }
+    ensures { (bytes : List ℕ) (p q : ConstantProgram) → IsTextOf bytes p → IsTextOf bytes q → p ≡ q }
 {}
 
 /// Files of which a program is accepted are not refused.
@@ -30,12 +33,19 @@ pub fn accepted_is_not_refused()
         IsAccepted files names p → IsRefused files names fault → ⊥ }
 {}
 
+/// Of files that are refused for no fault a program is accepted. This is said by a double negation, as no definition
+/// decides whether a text is one of a program.
+pub fn accepted_unless_refused()
+    ensures { (files : Files) (names : List (List ℕ)) → ((fault : Fault) → IsRefused files names fault → ⊥) →
+        ((p : ConstantProgram) → IsAccepted files names p → ⊥) → ⊥ }
+{}
+
 /// A command that is accepted is done or runs out of memory, where the files are told and no count of faults rose.
 pub fn faultless_answers()
     ensures { (names : List (List ℕ)) (files : Files) (p : ConstantProgram) (old new : Outside) (status : Status) →
         old.files ≡ Some files → IsAccepted files names p →
         (Rose old.shelf_faults new.shelf_faults → ⊥) → (Rose old.out_faults new.out_faults → ⊥) →
-        Leaves names old new status → (status ≡ Done) ⊎ (status ≡ NoMemory) }
+        AnswerLeaves names old new status → (status ≡ Done) ⊎ (status ≡ NoMemory) }
 {}
 
 /// At most one program is accepted.
@@ -65,16 +75,24 @@ pub fn one_image()
     ensures { (a b : Image) → HasFile a → HasFile b → image_bytes a ≡ image_bytes b → a ≡ b }
 {}
 
+/// In a valid description a code decodes into at most one list of instances.
+pub fn one_decoding()
+    ensures { (d : Description) (code : List ℕ) (xs ys : List InstanceOf) →
+        IsValid d → DecodesInto d code xs → DecodesInto d code ys → xs ≡ ys }
+{
+    one_instance();
+}
+
 /// The definitions give the text and the image of the program that puts out 7 and returns 0 as they are by hand.
 pub fn example_of_seven()
-    ensures text { Spells seven_text seven }
+    ensures text { IsTextOf seven_text seven }
     ensures image { image_bytes (image_of tin32 seven) ≡ seven_image }
 {}
 
 /// On every input the machine that runs that image shows, after each number of steps, what it should by hand.
 pub fn run_of_seven()
     ensures { (input : List ℕ) (steps : ℕ) (p : Progress) →
-        RunsTo tin32 (loaded tin32 (image_of tin32 seven) input) steps p → observed p ≡ seven_shows steps }
+        RunsTo tin32 (loaded_state tin32 (image_of tin32 seven) input) steps p → observation_of p ≡ seven_shows steps }
 {
     one_instance();
 }

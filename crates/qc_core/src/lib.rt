@@ -30,11 +30,13 @@ pub use decoding::decode;
 pub use encoding::encode;
 pub use image_file::write_image;
 pub use laws::{
-    accepted_is_not_refused, example_of_seven, faultless_answers, one_accepted_program, one_image,
-    one_program, one_refusal, one_usage, run_of_seven, usage_is_no_command,
+    accepted_is_not_refused, accepted_unless_refused, example_of_seven, faultless_answers,
+    one_accepted_program, one_decoding, one_image, one_program, one_refusal, one_usage,
+    run_of_seven, usage_is_no_command,
 };
 pub use machine::Machine;
 pub use machines::tin32;
 pub use memory_files::MemShelf;
 pub use memory_out::MemOut;
-pub use outside::{Out, ReadEnd, Shelf, StoreEnd, is_too_long};
+pub use outside::{Out, ReadEnd, Shelf, StoreEnd, is_too_long, wanted_after};
+pub use qc_text::NoMemory;

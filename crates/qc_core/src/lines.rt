@@ -4,10 +4,11 @@ ghost use Rattle.qc_core.specs.Answer.{compiled_line as line_of_image, refusal_l
 
 use crate::answer::Fault;
 use qc_terms::Image;
-use std::alloc::{AllocError, Global};
+use qc_text::NoMemory;
+use std::alloc::Global;
 
 /// The line of an image that was compiled.
-pub(crate) fn compiled_line(alloc: Global, image: &Image) -> Result<String, AllocError>
+pub(crate) fn compiled_line(alloc: Global, image: &Image) -> Result<String, NoMemory>
     ensures { IfOk result (λ line. string_bytes line ≡ line_of_image image.now) }
 {
     let code = image.code.len();
@@ -16,7 +17,7 @@ pub(crate) fn compiled_line(alloc: Global, image: &Image) -> Result<String, Allo
 }
 
 /// The line of a refusal.
-pub(crate) fn refusal_line(alloc: Global, fault: Fault) -> Result<String, AllocError>
+pub(crate) fn refusal_line(alloc: Global, fault: Fault) -> Result<String, NoMemory>
     ensures { IfOk result (λ line. string_bytes line ≡ line_of_fault fault) }
 {
     match fault {

@@ -1,7 +1,7 @@
 ghost use Rattle.std.specs.Prelude.{◌≡◌, ◌+◌, ◌-◌, ◌++◌, ◌<◌, ◌≤◌, ◌%◌, ◌^◌, All, IfOk, length, map, replicate};
-ghost use Rattle.qc_core.specs.Machine.{IsMachineOf};
+ghost use Rattle.qc_descr.specs.Machine.{IsMachineOf};
 ghost use Rattle.qc_descr.specs.Description.{widths_of, counts_of};
-ghost use Rattle.qc_descr.specs.Loading.{FitsMachine, loaded};
+ghost use Rattle.qc_descr.specs.Loading.{FitsMachine, loaded_state};
 ghost use Rattle.qc_descr.specs.Loading.{loaded_memory as memory_of_image};
 ghost use Rattle.qc_descr.specs.Step.{Steps};
 ghost use Rattle.qc_descr.specs.Valid.{HasLayout, IsValid};
@@ -9,9 +9,10 @@ ghost use Rattle.qc_descr.specs.Valid.{HasLayout, IsValid};
 use crate::decoding::decode;
 use qc_descr::Description;
 use qc_terms::{Cells, Event, Image, State, apply_rtl};
+use qc_text::NoMemory;
 use qc_words::Width;
 use sqlite_items::Items;
-use std::alloc::{AllocError, Global};
+use std::alloc::Global;
 use std::marker::Model;
 
 /// A machine that runs an image. Contracts see it as its state.
@@ -33,7 +34,7 @@ impl Model for Machine {
 }
 
 /// The widths of a description's spaces.
-fn widths(alloc: Global, descr: &Description) -> Result<Items<Width>, AllocError>
+fn widths(alloc: Global, descr: &Description) -> Result<Items<Width>, NoMemory>
     ensures { IfOk result (λ widths. widths ≡ widths_of descr.now) }
 {
     let widths: Vec<Width> = descr
@@ -46,7 +47,7 @@ fn widths(alloc: Global, descr: &Description) -> Result<Items<Width>, AllocError
 }
 
 /// The cells of a description's spaces, all 0.
-fn cells(alloc: Global, descr: &Description) -> Result<Cells, AllocError>
+fn cells(alloc: Global, descr: &Description) -> Result<Cells, NoMemory>
     ensures { IfOk result (λ cells. cells ≡ map (λ count. replicate count 0) (counts_of descr.now)) }
 {
     let counts: Vec<u32> = descr
@@ -65,7 +66,7 @@ fn filled_memory(
     start: usize,
     initial: &[u8],
     size: usize,
-) -> Result<Items<u8>, AllocError>
+) -> Result<Items<u8>, NoMemory>
     requires code { length code.now ≤ start }
     requires room { start + length initial.now ≤ size }
     ensures value { IfOk result (λ memory. memory ≡ code.now ++ (replicate (start - length code.now) 0
@@ -81,7 +82,7 @@ fn filled_memory(
 }
 
 /// The memory in which an image is loaded.
-fn loaded_memory(alloc: Global, descr: &Description, image: &Image) -> Result<Items<u8>, AllocError>
+fn loaded_memory(alloc: Global, descr: &Description, image: &Image) -> Result<Items<u8>, NoMemory>
     requires layout { HasLayout descr.now }
     requires fits { FitsMachine descr.now image.now }
     ensures value { IfOk result (λ memory. memory ≡ memory_of_image descr.now image.now) }
@@ -114,11 +115,11 @@ impl Machine {
         descr: &Description,
         image: &Image,
         input: Vec<u64>,
-    ) -> Result<Machine, AllocError>
+    ) -> Result<Machine, NoMemory>
         requires valid { IsValid descr.now }
         requires fits { FitsMachine descr.now image.now }
         requires words { All (λ word. word < 2 ^ descr.now.facts.word) input.items }
-        ensures loaded { IfOk result (λ machine. machine ≡ loaded descr.now image.now input.items) }
+        ensures loaded { IfOk result (λ machine. machine ≡ loaded_state descr.now image.now input.items) }
         ensures made { IfOk result (IsMachineOf descr.now) }
     {
         let state = State {

@@ -4,12 +4,12 @@ ghost use Rattle.qc_core.specs.Tin32 as spec;
 
 use qc_descr::{Bit, Coding, Description, Instruction, OperandKind, Space};
 use qc_terms::{Dest, Effect, Facts, Order, Place, Rtl, Term};
-use qc_text::Text;
+use qc_text::{NoMemory, Text};
 use qc_words::Width;
 use sqlite_items::Items;
-use std::alloc::{AllocError, Global};
+use std::alloc::Global;
 
-fn push_fixed(bits: &mut Items<Bit>, count: u8, value: u32) -> Result<(), AllocError>
+fn push_fixed(bits: &mut Items<Bit>, count: u8, value: u32) -> Result<(), NoMemory>
     requires { count ≤ 32 }
     ensures { OnOk result (bits.new ≡ bits.old ++ spec.fixed_bits count value) }
 {
@@ -21,7 +21,7 @@ fn push_fixed(bits: &mut Items<Bit>, count: u8, value: u32) -> Result<(), AllocE
     Ok(())
 }
 
-fn push_operand(bits: &mut Items<Bit>, count: u8, operand: u32) -> Result<(), AllocError>
+fn push_operand(bits: &mut Items<Bit>, count: u8, operand: u32) -> Result<(), NoMemory>
     ensures { OnOk result (bits.new ≡ bits.old ++ spec.operand_bits count operand) }
 {
     for bit in 0..count {
@@ -32,7 +32,7 @@ fn push_operand(bits: &mut Items<Bit>, count: u8, operand: u32) -> Result<(), Al
 
 /// The token of an opcode and the register of operand 0.
 #[tactic(auto, unfolding(crate::specs::Tin32::first_token))]
-fn first_token(alloc: Global, opcode: u32) -> Result<Items<Bit>, AllocError>
+fn first_token(alloc: Global, opcode: u32) -> Result<Items<Bit>, NoMemory>
     ensures { IfOk result (λ bits. bits ≡ spec.first_token opcode) }
 {
     let mut bits = Items::new(alloc);
@@ -52,7 +52,7 @@ fn token_width() -> Width
 }
 
 /// A register of the only space, as operand 0.
-fn register_operand(alloc: Global, name: &[u8]) -> Result<(Text, OperandKind), AllocError>
+fn register_operand(alloc: Global, name: &[u8]) -> Result<(Text, OperandKind), NoMemory>
     ensures { IfOk result (λ o. o ≡ spec.register_operand name.now) }
 {
     Ok((Text::new(alloc, name)?, OperandKind::Register { space: 0 }))
@@ -65,7 +65,7 @@ fn instruction(
     to: Dest,
     value: Term,
     bits: Items<Bit>,
-) -> Result<Instruction, AllocError>
+) -> Result<Instruction, NoMemory>
     ensures { IfOk result (λ i. i ≡ spec.instruction_of name.now operands to value bits) }
 {
     let name = Text::new(alloc, name)?;
@@ -85,7 +85,7 @@ fn instruction(
 }
 
 #[tactic(auto, unfolding(crate::specs::Tin32::const_instruction, crate::specs::Tin32::immediate_token))]
-fn const_instruction(alloc: Global) -> Result<Instruction, AllocError>
+fn const_instruction(alloc: Global) -> Result<Instruction, NoMemory>
     ensures { IfOk result (λ i. i ≡ spec.const_instruction) }
 {
     let mut operands = Items::new(alloc);
@@ -118,7 +118,7 @@ fn register_instruction(
     name: &[u8],
     to: Dest,
     opcode: u32,
-) -> Result<Instruction, AllocError>
+) -> Result<Instruction, NoMemory>
     ensures { IfOk result (λ i. i ≡ spec.register_instruction name.now to opcode) }
 {
     let mut operands = Items::new(alloc);
@@ -136,21 +136,21 @@ fn register_instruction(
 }
 
 #[tactic(auto, unfolding(crate::specs::Tin32::out_instruction))]
-fn out_instruction(alloc: Global) -> Result<Instruction, AllocError>
+fn out_instruction(alloc: Global) -> Result<Instruction, NoMemory>
     ensures { IfOk result (λ i. i ≡ spec.out_instruction) }
 {
     register_instruction(alloc, b"op_out", Dest::Out, 38)
 }
 
 #[tactic(auto, unfolding(crate::specs::Tin32::halt_instruction))]
-fn halt_instruction(alloc: Global) -> Result<Instruction, AllocError>
+fn halt_instruction(alloc: Global) -> Result<Instruction, NoMemory>
     ensures { IfOk result (λ i. i ≡ spec.halt_instruction) }
 {
     register_instruction(alloc, b"op_halt", Dest::Halt, 39)
 }
 
 #[tactic(auto, unfolding(crate::specs::Tin32::tin32_instructions))]
-fn instructions(alloc: Global) -> Result<Items<Instruction>, AllocError>
+fn instructions(alloc: Global) -> Result<Items<Instruction>, NoMemory>
     ensures { IfOk result (λ is. is ≡ spec.tin32_instructions) }
 {
     let mut instructions = Items::new(alloc);
@@ -161,7 +161,7 @@ fn instructions(alloc: Global) -> Result<Items<Instruction>, AllocError>
 }
 
 #[tactic(auto, unfolding(crate::specs::Tin32::tin32_spaces))]
-fn spaces(alloc: Global) -> Result<Items<Space>, AllocError>
+fn spaces(alloc: Global) -> Result<Items<Space>, NoMemory>
     ensures { IfOk result (λ ss. ss ≡ spec.tin32_spaces) }
 {
     let mut spaces = Items::new(alloc);
@@ -176,7 +176,7 @@ fn spaces(alloc: Global) -> Result<Items<Space>, AllocError>
 
 /// The machine tin32 with its instructions `const`, `op_out` and `op_halt`.
 #[tactic(auto, unfolding(crate::specs::Tin32::tin32))]
-pub fn tin32(alloc: Global) -> Result<Description, AllocError>
+pub fn tin32(alloc: Global) -> Result<Description, NoMemory>
     ensures is { IfOk result (λ d. d ≡ spec.tin32) }
     ensures valid { IfOk result IsValid }
 {

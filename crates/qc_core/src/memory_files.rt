@@ -1,22 +1,16 @@
 //! Files that lie in memory.
-ghost use Rattle.std.specs.Prelude.{◌≡◌, ◌<◌, ◌≤◌, ◌↔◌, ℕ, Some, IsTrue, IfOk, IsErrOf, OnOk, OnErr, IfSome, IsNone, length, string_bytes, option_copied};
+ghost use Rattle.std.specs.Prelude.{◌≡◌, ◌<◌, ◌≤◌, ◌↔◌, ℕ, Some, IsTrue, IfOk, IsErrOf, OnOk, OnErr, IfSome, IsNone};
+ghost use Rattle.std.specs.Prelude.{length, string_bytes, option_copied};
 ghost use Rattle.std.specs.FinMap.{get, insert};
-ghost use Rattle.qc_core.specs.Calls.{NextFails};
+ghost use Rattle.qc_core.specs.Calls.{NextFails, calls_of, failing_of, faults_of};
 ghost use Rattle.qc_core.specs.Faults.{next_count};
 ghost use Rattle.qc_core.specs.Files.{content_of, file_limit, OthersStay};
-ghost use Rattle.qc_core.specs.MemoryFiles.{files_from, files_of, calls_of, failing_of, faults_of, FailsToRead, NoneBefore, IsFirst};
+ghost use Rattle.qc_core.specs.MemoryFiles.{files_from, files_of, FailsToRead, NoneBefore, IsFirst};
 
 use crate::calls::Calls;
 use crate::outside::{ReadEnd, Shelf, StoreEnd, is_too_long};
-use std::alloc::{AllocError, Global};
-
-fn copied(alloc: Global, bytes: &[u8]) -> Result<Vec<u8>, AllocError>
-    ensures { IfOk result (λ copy. copy.items ≡ bytes.now) }
-{
-    let mut copy = Vec::new(alloc);
-    copy.extend_from_slice(bytes)?;
-    Ok(copy)
-}
+use qc_text::NoMemory;
+use std::alloc::Global;
 
 /// The place of the first pair of the name, from 0.
 fn place_of(files: &Vec<(String, Vec<u8>)>, name: &String) -> Option<usize>
@@ -46,11 +40,12 @@ fn bind(
     alloc: Global,
     name: &String,
     bytes: &[u8],
-) -> Result<(), AllocError>
-    ensures ok { OnOk result (files_from files.new.items ≡ insert (files_from files.old.items) (string_bytes name.now) bytes.now) }
+) -> Result<(), NoMemory>
+    ensures ok { OnOk result (files_from files.new.items
+        ≡ insert (files_from files.old.items) (string_bytes name.now) bytes.now) }
     ensures err { OnErr result (files.new.items ≡ files.old.items) }
 {
-    let copy = copied(alloc, bytes)?;
+    let copy = Vec::from_slice(alloc, bytes)?;
     match place_of(files, name) {
         Some(place) => files[place].1 = copy,
         None => files.push((name.clone()?, copy))?,
@@ -69,12 +64,13 @@ pub struct MemShelf {
 }
 
 impl MemShelf {
-    /// Of two pairs with one name the first counts.
+    /// A shelf of these files, a name and a content each, before its first call. A name's content is that of its first
+    /// pair. `failing` are the numbers of the calls that are to fail.
     pub fn new(files: Vec<(String, Vec<u8>)>, failing: Vec<u64>) -> MemShelf
         ensures files { files_of result ≡ files_from files.items }
-        ensures faults { faults_of result ≡ 0 }
-        ensures failing { failing_of result ≡ failing.items }
-        ensures calls { calls_of result ≡ 0 }
+        ensures faults { faults_of result.calls ≡ 0 }
+        ensures failing { failing_of result.calls ≡ failing.items }
+        ensures calls { calls_of result.calls ≡ 0 }
     {
         MemShelf {
             files,
@@ -93,7 +89,7 @@ impl MemShelf {
 impl Shelf for MemShelf {
     ghost files = { λ shelf. Some (files_of shelf) };
 
-    ghost faults = { faults_of };
+    ghost faults = { λ shelf. faults_of shelf.calls };
 
     fn read(&mut self, alloc: Global, name: &String) -> Result<Vec<u8>, ReadEnd>
         ensures limit { IfOk result (λ bytes. length bytes.items ≤ file_limit) }
@@ -101,12 +97,13 @@ impl Shelf for MemShelf {
         ensures too_long { IsErrOf result ReadEnd.TooLong →
             file_limit < length (content_of (files_of self.old) (string_bytes name.now)) }
         ensures fails { IsErrOf result ReadEnd.Failed ↔ FailsToRead self.old (string_bytes name.now) }
-        ensures failed { IsErrOf result ReadEnd.Failed → faults_of self.new ≡ next_count (faults_of self.old) }
-        ensures kept { (IsErrOf result ReadEnd.Failed → ⊥) → faults_of self.new ≡ faults_of self.old }
+        ensures failed { IsErrOf result ReadEnd.Failed →
+            faults_of self.new.calls ≡ next_count (faults_of self.old.calls) }
+        ensures kept { (IsErrOf result ReadEnd.Failed → ⊥) → faults_of self.new.calls ≡ faults_of self.old.calls }
         ensures files { files_of self.new ≡ files_of self.old }
-        ensures failing { failing_of self.new ≡ failing_of self.old }
-        ensures calls { calls_of self.new ≡ next_count (calls_of self.old) }
-        ensures later { faults_of self.old ≤ faults_of self.new }
+        ensures failing { failing_of self.new.calls ≡ failing_of self.old.calls }
+        ensures calls { calls_of self.new.calls ≡ next_count (calls_of self.old.calls) }
+        ensures later { faults_of self.old.calls ≤ faults_of self.new.calls }
     {
         if self.calls.begin_fails() {
             return Err(ReadEnd::Failed);
@@ -117,7 +114,7 @@ impl Shelf for MemShelf {
                 Err(ReadEnd::Failed)
             }
             Some(bytes) if is_too_long(bytes.len()) => Err(ReadEnd::TooLong),
-            Some(bytes) => match copied(alloc, bytes) {
+            Some(bytes) => match Vec::from_slice(alloc, bytes) {
                 Ok(copy) => Ok(copy),
                 Err(_) => Err(ReadEnd::NoMemory),
             },
@@ -129,12 +126,14 @@ impl Shelf for MemShelf {
         ensures err { OnErr result (files_of self.new ≡ files_of self.old) }
         ensures others { OthersStay (string_bytes name.now) (files_of self.old) (files_of self.new) }
         ensures no_memory { IsErrOf result StoreEnd.NoMemory → files_of self.new ≡ files_of self.old }
-        ensures fails { IsErrOf result StoreEnd.Failed ↔ NextFails (failing_of self.old) (calls_of self.old) }
-        ensures failed { IsErrOf result StoreEnd.Failed → faults_of self.new ≡ next_count (faults_of self.old) }
-        ensures kept { (IsErrOf result StoreEnd.Failed → ⊥) → faults_of self.new ≡ faults_of self.old }
-        ensures failing { failing_of self.new ≡ failing_of self.old }
-        ensures calls { calls_of self.new ≡ next_count (calls_of self.old) }
-        ensures later { faults_of self.old ≤ faults_of self.new }
+        ensures fails { IsErrOf result StoreEnd.Failed
+            ↔ NextFails (failing_of self.old.calls) (calls_of self.old.calls) }
+        ensures failed { IsErrOf result StoreEnd.Failed →
+            faults_of self.new.calls ≡ next_count (faults_of self.old.calls) }
+        ensures kept { (IsErrOf result StoreEnd.Failed → ⊥) → faults_of self.new.calls ≡ faults_of self.old.calls }
+        ensures failing { failing_of self.new.calls ≡ failing_of self.old.calls }
+        ensures calls { calls_of self.new.calls ≡ next_count (calls_of self.old.calls) }
+        ensures later { faults_of self.old.calls ≤ faults_of self.new.calls }
     {
         if self.calls.begin_fails() {
             return Err(StoreEnd::Failed);

@@ -1,8 +1,8 @@
 //! An output that lies in memory.
 ghost use Rattle.std.specs.Prelude.{◌≡◌, ◌≤◌, ◌↔◌, ◌++◌, [], Some, OnOk, OnErr, IsErrOf};
-ghost use Rattle.qc_core.specs.Calls.{NextFails};
+ghost use Rattle.qc_core.specs.Calls.{NextFails, calls_of, failing_of, faults_of};
 ghost use Rattle.qc_core.specs.Faults.{next_count};
-ghost use Rattle.qc_core.specs.MemoryOut.{calls_of, failing_of, faults_of, written_of};
+ghost use Rattle.qc_core.specs.MemoryOut.{written_of};
 
 use crate::calls::Calls;
 use crate::outside::{Out, StoreEnd};
@@ -18,11 +18,12 @@ pub struct MemOut {
 }
 
 impl MemOut {
+    /// An output with no byte, before its first call. `failing` are the numbers of the calls that are to fail.
     pub fn new(alloc: Global, failing: Vec<u64>) -> MemOut
         ensures written { written_of result ≡ [] }
-        ensures faults { faults_of result ≡ 0 }
-        ensures failing { failing_of result ≡ failing.items }
-        ensures calls { calls_of result ≡ 0 }
+        ensures faults { faults_of result.calls ≡ 0 }
+        ensures failing { failing_of result.calls ≡ failing.items }
+        ensures calls { calls_of result.calls ≡ 0 }
     {
         MemOut {
             written: Vec::new(alloc),
@@ -41,18 +42,20 @@ impl MemOut {
 impl Out for MemOut {
     ghost written = { λ out. Some (written_of out) };
 
-    ghost faults = { faults_of };
+    ghost faults = { λ out. faults_of out.calls };
 
     fn put(&mut self, _alloc: Global, piece: &[u8]) -> Result<(), StoreEnd>
         ensures ok { OnOk result (written_of self.new ≡ written_of self.old ++ piece.now) }
         ensures err { OnErr result (written_of self.new ≡ written_of self.old) }
         ensures no_memory { IsErrOf result StoreEnd.NoMemory → written_of self.new ≡ written_of self.old }
-        ensures fails { IsErrOf result StoreEnd.Failed ↔ NextFails (failing_of self.old) (calls_of self.old) }
-        ensures failed { IsErrOf result StoreEnd.Failed → faults_of self.new ≡ next_count (faults_of self.old) }
-        ensures kept { (IsErrOf result StoreEnd.Failed → ⊥) → faults_of self.new ≡ faults_of self.old }
-        ensures failing { failing_of self.new ≡ failing_of self.old }
-        ensures calls { calls_of self.new ≡ next_count (calls_of self.old) }
-        ensures later { faults_of self.old ≤ faults_of self.new }
+        ensures fails { IsErrOf result StoreEnd.Failed
+            ↔ NextFails (failing_of self.old.calls) (calls_of self.old.calls) }
+        ensures failed { IsErrOf result StoreEnd.Failed →
+            faults_of self.new.calls ≡ next_count (faults_of self.old.calls) }
+        ensures kept { (IsErrOf result StoreEnd.Failed → ⊥) → faults_of self.new.calls ≡ faults_of self.old.calls }
+        ensures failing { failing_of self.new.calls ≡ failing_of self.old.calls }
+        ensures calls { calls_of self.new.calls ≡ next_count (calls_of self.old.calls) }
+        ensures later { faults_of self.old.calls ≤ faults_of self.new.calls }
     {
         if self.calls.begin_fails() {
             return Err(StoreEnd::Failed);

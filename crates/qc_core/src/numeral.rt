@@ -66,7 +66,8 @@ fn whole_number(digits: &[u8]) -> Option<u32>
 pub(crate) fn number(bytes: &[u8]) -> Option<(u32, &[u8])>
     ensures some { IfSome result (λ r. (bytes.now ≡ decimal r.0 ++ r.1.now) × (begins_with_digit r.1.now ≡ false)) }
     ensures word { IfSome result (λ r. r.0 < 2 ^ 32) }
-    ensures none { IsNone result → (n : ℕ) (rest : List ℕ) → n < 2 ^ 32 → begins_with_digit rest ≡ false → bytes.now ≡ decimal n ++ rest → ⊥ }
+    ensures none { IsNone result → (n : ℕ) (rest : List ℕ) → n < 2 ^ 32 → begins_with_digit rest ≡ false →
+        bytes.now ≡ decimal n ++ rest → ⊥ }
 {
     let (digits, rest) = split_digits(bytes);
     match whole_number(digits) {

@@ -1,34 +1,39 @@
 //! The texts of programs of constants.
-ghost use Rattle.std.specs.Prelude.{◌≡◌, ◌<◌, ◌≤◌, ◌^◌, ◌++◌, ◌⊎◌, ◌∷◌, [], ℕ, List, false, length, codes, IfSome, IsNone, IsTrue, IfOk, ◌↔◌};
+ghost use Rattle.std.specs.Prelude.{◌≡◌, ◌<◌, ◌≤◌, ◌^◌, ◌++◌, ◌⊎◌, ◌∷◌, [], ℕ, List, false, length, codes, IfSome};
+ghost use Rattle.std.specs.Prelude.{IsNone, IsTrue, IfOk, ◌↔◌};
 ghost use Rattle.std.specs.Fmt.{decimal};
-ghost use Rattle.qc_core.specs.ConstantProgram.{output_text, return_text, Spells, IsEnd, IsReturn, StartsWithOutputs, HasManyOutputs};
+ghost use Rattle.qc_core.specs.ConstantProgram.{output_text, return_text, IsTextOf, IsOptionalLineFeed, IsReturn};
+ghost use Rattle.qc_core.specs.ConstantProgram.{StartsWithOutputs, HasManyOutputs};
 ghost use Rattle.qc_core.specs.declared.constants.ConstantProgram.{ConstantProgram as Program};
 ghost use Rattle.qc_core.specs.Numeral.{begins_with_digit};
 
 use crate::constants::ConstantProgram;
 use crate::numeral::number;
+use qc_text::NoMemory;
 use sqlite_items::Items;
-use std::alloc::{AllocError, Global};
+use std::alloc::Global;
 
 const MOST_OUTPUTS: usize = 1000;
 
-/// What follows the front, if the bytes begin with it.
-fn after<'a>(bytes: &'a [u8], front: &[u8]) -> Option<&'a [u8]>
-    ensures some { IfSome result (λ rest. bytes.now ≡ front.now ++ rest.now) }
-    ensures none { IsNone result → (rest : List ℕ) → bytes.now ≡ front.now ++ rest → ⊥ }
+/// What follows the prefix, if the bytes begin with it.
+fn after<'a>(bytes: &'a [u8], prefix: &[u8]) -> Option<&'a [u8]>
+    ensures some { IfSome result (λ rest. bytes.now ≡ prefix.now ++ rest.now) }
+    ensures none { IsNone result → (rest : List ℕ) → bytes.now ≡ prefix.now ++ rest → ⊥ }
 {
-    bytes.strip_prefix(front)
+    bytes.strip_prefix(prefix)
 }
 
 /// The number between two texts at the front, and what follows them.
-fn number_between<'a>(bytes: &'a [u8], front: &[u8], back: &[u8]) -> Option<(u32, &'a [u8])>
+fn number_between<'a>(bytes: &'a [u8], prefix: &[u8], back: &[u8]) -> Option<(u32, &'a [u8])>
     requires { (rest : List ℕ) → begins_with_digit (back.now ++ rest) ≡ false }
-    ensures some { IfSome result (λ r. bytes.now ≡ front.now ++ decimal r.0 ++ back.now ++ r.1.now) }
+    ensures some { IfSome result (λ r. bytes.now ≡ prefix.now ++ decimal r.0 ++ back.now ++ r.1.now) }
     ensures word { IfSome result (λ r. r.0 < 2 ^ 32) }
-    ensures only { IfSome result (λ r. (n : ℕ) (rest : List ℕ) → n < 2 ^ 32 → bytes.now ≡ front.now ++ decimal n ++ back.now ++ rest → (r.0 ≡ n) × (r.1.now ≡ rest)) }
-    ensures none { IsNone result → (n : ℕ) (rest : List ℕ) → n < 2 ^ 32 → bytes.now ≡ front.now ++ decimal n ++ back.now ++ rest → ⊥ }
+    ensures only { IfSome result (λ r. (n : ℕ) (rest : List ℕ) → n < 2 ^ 32 →
+        bytes.now ≡ prefix.now ++ decimal n ++ back.now ++ rest → (r.0 ≡ n) × (r.1.now ≡ rest)) }
+    ensures none { IsNone result → (n : ℕ) (rest : List ℕ) → n < 2 ^ 32 →
+        bytes.now ≡ prefix.now ++ decimal n ++ back.now ++ rest → ⊥ }
 {
-    let Some(digits) = after(bytes, front) else {
+    let Some(digits) = after(bytes, prefix) else {
         return None;
     };
     let Some((word, rest)) = number(digits) else {
@@ -51,7 +56,7 @@ fn output(bytes: &[u8]) -> Option<(u32, &[u8])>
 }
 
 fn is_end(bytes: &[u8]) -> bool
-    ensures { IsTrue result ↔ IsEnd bytes.now }
+    ensures { IsTrue result ↔ IsOptionalLineFeed bytes.now }
 {
     match bytes {
         [] | [b'\n'] => true,
@@ -72,7 +77,7 @@ fn ending(bytes: &[u8]) -> Option<u32>
 }
 
 /// The outputs at the front, and what follows them, or none where there are more than 1,000.
-fn outputs(alloc: Global, bytes: &[u8]) -> Result<Option<(Items<u32>, &[u8])>, AllocError>
+fn outputs(alloc: Global, bytes: &[u8]) -> Result<Option<(Items<u32>, &[u8])>, NoMemory>
     ensures some { IfOk result (λ o. IfSome o (λ r. StartsWithOutputs bytes.now r.0 r.1.now)) }
     ensures none { IfOk result (λ o. IsNone o → HasManyOutputs bytes.now) }
 {
@@ -89,12 +94,9 @@ fn outputs(alloc: Global, bytes: &[u8]) -> Result<Option<(Items<u32>, &[u8])>, A
 }
 
 /// The program that the bytes spell, if they spell one.
-pub(crate) fn read_program(
-    alloc: Global,
-    bytes: &[u8],
-) -> Result<Option<ConstantProgram>, AllocError>
-    ensures some { IfOk result (λ o. IfSome o (Spells bytes.now)) }
-    ensures none { IfOk result (λ o. IsNone o → (p : Program) → Spells bytes.now p → ⊥) }
+pub(crate) fn read_program(alloc: Global, bytes: &[u8]) -> Result<Option<ConstantProgram>, NoMemory>
+    ensures some { IfOk result (λ o. IfSome o (IsTextOf bytes.now)) }
+    ensures none { IfOk result (λ o. IsNone o → (p : Program) → IsTextOf bytes.now p → ⊥) }
 {
     let Some(body) = after(bytes, b"target byteorder little wordsize 32; main() { ") else {
         return Ok(None);

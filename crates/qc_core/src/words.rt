@@ -13,7 +13,7 @@ fn is_file_word(word: &String) -> bool
     }
 }
 
-/// The place of the first wrong file word, or their number where more are wanted, or none where they are right.
+/// How many of the file words a command may start with, if they are not those of a command.
 fn wrong_file(files: &[String]) -> Option<usize>
     ensures wrong { IfSome result (IsWrongFile (texts_of files.now)) }
     ensures right { IsNone result → AreFiles (texts_of files.now) }
@@ -30,7 +30,7 @@ fn wrong_file(files: &[String]) -> Option<usize>
     }
 }
 
-/// The first wrong word, or the number of words where more are wanted, or none where the words are a command.
+/// How many of the words a command may start with, if they are no command.
 pub(crate) fn wrong_word(words: &Vec<String>) -> Option<usize>
     ensures usage { IfSome result (IsUsage (texts_of words.now.items)) }
     ensures command { IsNone result → IsCommand (texts_of words.now.items) (drop 1 (texts_of words.now.items)) }

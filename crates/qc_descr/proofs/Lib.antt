@@ -1,5 +1,6 @@
 pub mod Apart
 pub mod Bits
+pub mod Endings
 pub mod Operands
 pub mod Runs
 pub mod Search

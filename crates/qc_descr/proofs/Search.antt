@@ -103,7 +103,7 @@ found_coded d memory at number i is =
             found.0,
             coded_bytes d.facts.order i.coding found.0,
             record {
-              encodes = record { instruction = i; is = is; in_range = found.1; bytes_are = refl };
+              encodes = record { instruction = i; is = is; coded = record { in_range = found.1; bytes_are = refl } };
               more = found.2.0;
               prefix = found.2.1;
             },
@@ -113,10 +113,10 @@ found_coded d memory at number i is =
           let same : e.encodes.instruction ≡ i = same_Some _ _ (sym e.encodes.is ∙ is) in
           none (
             h.0,
-            subst (λ (x : Instruction). AreInRange d (kinds_of x) h.0) same e.encodes.in_range,
+            subst (λ (x : Instruction). AreInRange d (kinds_of x) h.0) same e.encodes.coded.in_range,
             (
               e.more,
-              e.prefix ∙ ap (λ b. b ++ e.more) (e.encodes.bytes_are
+              e.prefix ∙ ap (λ b. b ++ e.more) (e.encodes.coded.bytes_are
                   ∙ ap (λ (x : Instruction). coded_bytes d.facts.order x.coding h.0) same),
             ),
           ))

@@ -25,7 +25,7 @@ covered_at d n i valid is =
 -- the memory from the address, by the instance's coding
 pub from_coding : (d : Description) (memory : List ℕ) (at n : ℕ) (xs bytes : List ℕ) (e : EncodesAt d memory at n xs bytes) →
     drop at memory ≡ coded_bytes d.facts.order e.encodes.instruction.coding xs ++ e.more
-from_coding d memory at n xs bytes e = e.prefix ∙ ap (λ b. b ++ e.more) e.encodes.bytes_are
+from_coding d memory at n xs bytes e = e.prefix ∙ ap (λ b. b ++ e.more) e.encodes.coded.bytes_are
 
 other_instruction : (d : Description) (memory : List ℕ) (at m n : ℕ) (xs ys bytes more_bytes : List ℕ) → IsValid d →
     EncodesAt d memory at m xs bytes → EncodesAt d memory at n ys more_bytes → m < n → ⊥
@@ -49,13 +49,13 @@ same_rest : (d : Description) (memory : List ℕ) (at m n : ℕ) (xs ys bytes mo
 same_rest d memory at m n xs ys bytes more_bytes valid e f same =
     let i : Instruction = e.encodes.instruction in
     let one : f.encodes.instruction ≡ i = same_instruction d memory at m n xs ys bytes more_bytes e f same in
-    let in_range : AreInRange d (kinds_of i) ys = subst (λ (x : Instruction). AreInRange d (kinds_of x) ys) one f.encodes.in_range in
+    let in_range : AreInRange d (kinds_of i) ys = subst (λ (x : Instruction). AreInRange d (kinds_of x) ys) one f.encodes.coded.in_range in
     let there : coded_bytes d.facts.order f.encodes.instruction.coding ys ≡ coded_bytes d.facts.order i.coding ys =
     ap (λ (x : Instruction). coded_bytes d.facts.order x.coding ys) one in
     let operands : xs ≡ ys =
-    same_instance d i xs ys e.more f.more (covered_at d m i valid e.encodes.is) e.encodes.in_range in_range
+    same_instance d i xs ys e.more f.more (covered_at d m i valid e.encodes.is) e.encodes.coded.in_range in_range
     (sym (from_coding d memory at m xs bytes e) ∙ from_coding d memory at n ys more_bytes f ∙ ap (λ b. b ++ f.more) there) in
-    (operands, e.encodes.bytes_are ∙ ap (coded_bytes d.facts.order i.coding) operands ∙ sym there ∙ sym f.encodes.bytes_are)
+    (operands, e.encodes.coded.bytes_are ∙ ap (coded_bytes d.facts.order i.coding) operands ∙ sym there ∙ sym f.encodes.coded.bytes_are)
 
 pub one_instance : (d : Description) (memory : List ℕ) (at m n : ℕ) (xs ys bytes more_bytes : List ℕ) → IsValid d →
     EncodesAt d memory at m xs bytes → EncodesAt d memory at n ys more_bytes → (m ≡ n) × (xs ≡ ys) × (bytes ≡ more_bytes)

@@ -1,5 +1,6 @@
 -- Which bits encode an instruction: their values under the operands, and their places in memory.
-use Rattle.std.specs.Prelude.{ℕ, zero, suc, ◌+◌, ◌*◌, ◌/◌, List, [], ◌∷◌, ◌++◌, take, drop, reverse, slice_index, Bool, false, ◌&&◌, ◌||◌, not, if◌then◌else◌}
+use Rattle.std.specs.Prelude.{ℕ, zero, suc, ◌+◌, ◌*◌, ◌/◌, List, [], ◌∷◌, ◌++◌, take, drop, reverse, slice_index, Bool}
+use Rattle.std.specs.Prelude.{false, ◌&&◌, ◌||◌, not, if◌then◌else◌}
 use Rattle.std.specs.Int.{bit_at}
 use Rattle.qc_terms.specs.declared.state.Order.{Order}
 use Rattle.qc_terms.specs.declared.state.Order.TheVariants.{Little, Big}
@@ -41,7 +42,7 @@ differs_at (Fixed a) (Fixed b) = (a && not b) || (not a && b)
 differs_at (Fixed a) (Piece operand bit) = false
 differs_at (Piece operand bit) b = false
 
--- some bit that both fix differs, within the shorter one's length
+-- at some place that both have, both have a constant bit, and not the same one
 abbrev pub bits_differ : List Bit → List Bit → Bool
 bits_differ [] ys = false
 bits_differ (x ∷ xs) [] = false

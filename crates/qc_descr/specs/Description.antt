@@ -1,5 +1,5 @@
 -- Parts of a description, and what its instructions' operands may be.
-use Rattle.std.specs.Prelude.{ℕ, ◌<◌, ◌^◌, ◌/◌, List, [], ◌∷◌, map, sum, slice_index}
+use Rattle.std.specs.Prelude.{ℕ, ◌<◌, ◌≤◌, ◌^◌, ◌/◌, List, [], ◌∷◌, map, sum, slice_index}
 use Rattle.qc_terms.specs.State.{Context}
 use Rattle.qc_descr.specs.declared.description.Description.{Description}
 use Rattle.qc_descr.specs.declared.description.Instruction.{Instruction}
@@ -24,7 +24,7 @@ kinds_of i = map (λ o. o.1) i.operands
 abbrev pub size_of : Instruction → ℕ
 size_of i = sum i.coding.tokens / 8
 
--- a register's number is below its space's number of cells, an immediate below 2 to its width
+-- a register is one of its space's cells, and an immediate has no more bits than its width
 abbrev pub IsInRange : Description → OperandKind → ℕ → Type 0
 IsInRange d (Register space) operand = operand < slice_index (counts_of d) space
 IsInRange d (Imm width) operand = operand < 2 ^ width
@@ -35,3 +35,8 @@ AreInRange d [] [] = Unit {0}
 AreInRange d [] (operand ∷ operands) = ⊥
 AreInRange d (kind ∷ kinds) [] = ⊥
 AreInRange d (kind ∷ kinds) (operand ∷ operands) = IsInRange d kind operand × AreInRange d kinds operands
+
+-- an immediate is one of 64 bits at most
+abbrev pub IsNarrow : OperandKind → Type 0
+IsNarrow (Register space) = Unit {0}
+IsNarrow (Imm width) = width ≤ 64

@@ -2,6 +2,7 @@ pub mod Coding
 pub mod Description
 pub mod Encoding
 pub mod Loading
+pub mod Machine
 pub mod Step
 pub mod Valid
 pub use Rattle.qc_words.specs.Operators

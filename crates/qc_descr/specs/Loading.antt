@@ -25,8 +25,8 @@ loaded_memory d image =
     ++ (image.initial ++ replicate (d.memory - d.code_end - length image.initial) 0))
 
 -- all cells and the program counter are 0, and no word of the input was taken
-abbrev pub loaded : Description → Image → List ℕ → State
-loaded d image input = record {
+abbrev pub loaded_state : Description → Image → List ℕ → State
+loaded_state d image input = record {
   facts = d.facts;
   widths = widths_of d;
   cells = map (λ count. replicate count 0) (counts_of d);

@@ -51,8 +51,9 @@ pub record Progress : Type 0 where
   pub state : State
   pub output : List ℕ
 
-abbrev pub observed : Progress → Observation
-observed p = record { output = p.output; ending = p.state.ending }
+-- what can be seen of a run that has come this far
+abbrev pub observation_of : Progress → Observation
+observation_of p = record { output = p.output; ending = p.state.ending }
 
 -- after one more step
 pub record Advances (d : Description) (p q : Progress) : Type 0 where

@@ -1,5 +1,7 @@
 -- Valid descriptions.
-use Rattle.std.specs.Prelude.{ℕ, zero, suc, ◌≡◌, ◌≢◌, ◌<◌, ◌≤◌, ◌+◌, ◌/◌, ◌%◌, ◌^◌, ◌⊎◌, List, [], ◌∷◌, length, sum, map, count_by, slice_get, slice_index, All, Contains, IsTrue, Bool, true, false, ◌&&◌, ◌||◌, nat_eq, nat_lt, Option, None, Some, IfSome}
+use Rattle.std.specs.Prelude.{ℕ, zero, suc, ◌≡◌, ◌≢◌, ◌<◌, ◌≤◌, ◌+◌, ◌/◌, ◌%◌, ◌^◌, ◌⊎◌, List, [], ◌∷◌, length, sum}
+use Rattle.std.specs.Prelude.{map, count_by, slice_get, slice_index, All, Contains, IsTrue, Bool, true, false, ◌&&◌}
+use Rattle.std.specs.Prelude.{◌||◌, nat_eq, nat_lt, Option, None, Some, IfSome}
 use Rattle.std.specs.List.{list_all}
 use Rattle.qc_terms.specs.declared.state.Order.{Order}
 use Rattle.qc_terms.specs.declared.term.Dest.{Dest}
@@ -9,7 +11,8 @@ use Rattle.qc_terms.specs.declared.term.Place.{Place}
 use Rattle.qc_terms.specs.declared.term.Rtl.{Rtl}
 use Rattle.qc_terms.specs.declared.term.Term.{Term}
 use Rattle.qc_terms.specs.declared.term.Place.TheVariants as place
-use Rattle.qc_terms.specs.Tree.{Tree, Number, Unary, Binary, Register, Immediate, Load, NextInput, AddressAfter, tree_of, nodes_of}
+use Rattle.qc_terms.specs.Tree.{Tree, Number, Unary, Binary, Register, Immediate, Load, NextInput, AddressAfter}
+use Rattle.qc_terms.specs.Tree.{tree_of, nodes_of}
 use Rattle.qc_terms.specs.Typing.{HasOneEvent, IsTypedRtl}
 use Rattle.qc_descr.specs.declared.coding.Bit.{Bit}
 use Rattle.qc_descr.specs.declared.coding.Bit.TheVariants.{Fixed, Piece}
@@ -25,7 +28,8 @@ use Rattle.qc_descr.specs.Description.{widths_of, counts_of, context_of_descript
 -- a cell of a space whose cells are words of the machine
 abbrev pub IsWordCell : Description → ℕ × ℕ → Type 0
 IsWordCell d cell =
-    (cell.0 < length d.spaces) × (cell.1 < slice_index (counts_of d) cell.0) × (slice_index (widths_of d) cell.0 ≡ d.facts.word)
+    (cell.0 < length d.spaces) × (cell.1 < slice_index (counts_of d) cell.0)
+    × (slice_index (widths_of d) cell.0 ≡ d.facts.word)
 
 -- one of the cells that a compiler may use
 abbrev pub IsAllocatable : Description → ℕ × ℕ → Type 0
@@ -68,7 +72,8 @@ nodes_of_dest (dest.Mem width address) = nodes_of (tree_of address)
 nodes_of_dest _ = 0
 
 abbrev pub nodes_of_rtl : Rtl → ℕ
-nodes_of_rtl rtl = sum (map (λ e. nodes_of_guard e.guard + (nodes_of_dest e.to + nodes_of (tree_of e.value))) rtl.effects)
+nodes_of_rtl rtl =
+    sum (map (λ e. nodes_of_guard e.guard + (nodes_of_dest e.to + nodes_of (tree_of e.value))) rtl.effects)
 
 -- how many things of each sort there may be
 pub record IsWithinLimits (d : Description) : Type 0 where
@@ -94,11 +99,13 @@ NamesOperands kinds (Load width address) = NamesOperands kinds address
 NamesOperands kinds (NextInput width) = Unit {0}
 NamesOperands kinds (AddressAfter width) = Unit {0}
 
+-- the same for a destination
 abbrev pub NamesDest : List OperandKind → Dest → Type 0
 NamesDest kinds (dest.Reg place) = NamesPlace kinds place
 NamesDest kinds (dest.Mem width address) = NamesOperands kinds (tree_of address)
 NamesDest kinds _ = Unit {0}
 
+-- an effect names each operand as what it is
 pub record EffectNames (kinds : List OperandKind) (e : Effect) : Type 0 where
   pub guard : IfSome e.guard (λ g. NamesOperands kinds (tree_of g))
   pub value : NamesOperands kinds (tree_of e.value)

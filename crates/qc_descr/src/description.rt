@@ -33,8 +33,8 @@ pub struct Instruction {
 /// A machine. A pair names a cell by its space's number and its index. `allocatable` is a space, of which a compiler
 /// may use the cells from `first` to `last`.
 ///
-/// The code region is the bytes of memory from 0, the data region those from `code_end`, and the stack region those
-/// from `data_end` to the memory's end. `align` is in bytes, `slot_bits` the width of a frame offset in bits.
+/// The memory's `memory` bytes have three parts: code below `code_end`, then data below `data_end`, and then the stack.
+/// `align` is in bytes, and `slot_bits` is the width of a frame offset in bits.
 #[derive(Debug, Drop)]
 pub struct Description {
     pub name: Text,

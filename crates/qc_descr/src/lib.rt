@@ -10,4 +10,6 @@ mod laws;
 
 pub use coding::{Bit, Coding};
 pub use description::{Description, Instance, Instruction, OperandKind, Operands, Space};
-pub use laws::{one_instance, one_outcome, one_run, pieces_stand, some_outcome, some_run};
+pub use laws::{
+    one_instance, one_outcome, one_run, pieces_stand, some_outcome, some_run, step_tells_ending,
+};

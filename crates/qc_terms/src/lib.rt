@@ -19,7 +19,7 @@ pub use apply::apply_rtl;
 pub use cells::Cells;
 pub use evaluate::value;
 pub use image::Image;
-pub use laws::{stored_words_are_loaded, typed_terms_have_no_clash};
+pub use laws::{events_tell_endings, stored_words_are_loaded, typed_terms_have_no_clash};
 pub use state::{Event, Facts, Order, State};
 pub use term::{Dest, Effect, Place, Rtl, Term};
 pub use typing::{WidthClash, width_of};

@@ -1,8 +1,11 @@
 pub mod Comments
 pub mod Cuts
 pub mod Fronts
+pub mod Lexemes
 pub mod Numerals
 pub mod Runs
+pub mod Scanned
 pub mod Scans
-pub mod Spans
 pub mod Shapes
+pub mod Spans
+pub mod Words

@@ -1,29 +1,37 @@
 //! The values of numerals.
-ghost use Rattle.std.specs.Prelude.{◌≡◌, ◌<◌, ◌≤◌, ◌^◌, min, IsTrue};
-ghost use Rattle.std.specs.Char.{is_ascii_hexdigit};
-ghost use Rattle.std.specs.List.{list_all};
-ghost use Rattle.qc_text.specs.Tokens.{IsNumberText};
-ghost use Rattle.qc_text.specs.Numerals.{number_of, number_on};
+ghost use Rattle.std.specs.Prelude.{◌≡◌, ◌<◌, ◌≤◌, ◌^◌, min};
+ghost use Rattle.qc_text.specs.Numerals.{number_in, number_of, number_on};
 ghost use Rattle.qc_text.specs.Numerals as spec;
+
+use crate::cursor::Ident;
 
 const LIMIT: u128 = 1 << 64;
 
+/// A number of a text: its token's number, and its value, where all numbers of 2^64 and more are told as 2^64, which is
+/// above every limit.
+#[derive(Clone, Copy, Debug, PartialEq, Eq)]
+pub struct Number {
+    pub token: usize,
+    pub value: u128,
+}
+
 fn digit_value(digit: u8) -> u128
-    requires { IsTrue (is_ascii_hexdigit digit) }
-    ensures { result ≡ spec.digit_value digit }
+    ensures value { result ≡ spec.digit_value digit }
+    ensures small { result < 256 }
 {
-    let value = match digit {
-        b'0'..=b'9' => digit - b'0',
-        b'A'..=b'F' => digit - b'A' + 10,
-        _ => digit - b'a' + 10,
+    let zero = if digit < b'A' {
+        b'0'
+    } else if digit < b'a' {
+        b'A' - 10
+    } else {
+        b'a' - 10
     };
-    u128::from(value)
+    u128::from(digit.saturating_sub(zero))
 }
 
 /// The number whose digits these are, up to the limit.
 fn capped(base: u128, digits: &[u8]) -> u128
-    requires base { (0 < base) × (base ≤ 16) }
-    requires digits { IsTrue (list_all is_ascii_hexdigit digits.now) }
+    requires { (0 < base) × (base ≤ 16) }
     ensures { result ≡ min (number_on base 0 digits.now) (2 ^ 64) }
 {
     let mut value = 0;
@@ -34,14 +42,25 @@ fn capped(base: u128, digits: &[u8]) -> u128
 }
 
 /// The value of a number's text. All numbers of 2 to the 64th and more are told as 2 to the 64th.
-pub fn number_value(digits: &[u8]) -> u128
-    requires { IsNumberText digits.now }
-    ensures { result ≡ min (number_of digits.now) (2 ^ 64) }
+pub fn number_value(text: &[u8]) -> u128
+    ensures { result ≡ min (number_of text.now) (2 ^ 64) }
 {
-    if digits.starts_with(b"0x") {
-        capped(16, digits.split_at(2).1)
+    if text.starts_with(b"0x") {
+        capped(16, text.split_at(2).1)
     } else {
-        capped(10, digits)
+        capped(10, text)
+    }
+}
+
+impl Number {
+    /// The number of a token, whose text is given.
+    pub fn of(digits: &Ident) -> Number
+        ensures { result ≡ number_in digits.now }
+    {
+        Number {
+            token: digits.token,
+            value: number_value(digits.text.as_slice()),
+        }
     }
 }
 

@@ -1,25 +1,28 @@
 //! The files of the system.
-ghost use Rattle.std.specs.Prelude.{◌≡◌, ◌≢◌, ◌<◌, ◌≤◌, ◌++◌, ℕ, List, [], IfErr, IfOk, IfSome, IsErr, IsErrOf, OnOk, None, length, if◌then◌else◌};
+ghost use Rattle.std.specs.Prelude.{◌≡◌, ◌≢◌, ◌<◌, ◌≤◌, ◌++◌, ℕ, List, [], IfErr, IfOk, IfSome, IsErr, IsErrOf, OnOk};
+ghost use Rattle.std.specs.Prelude.{None, length, if◌then◌else◌};
 ghost use Rattle.std.specs.Io.KnownBytes.{Appends};
 ghost use Rattle.qc_core.specs.Files.{file_limit};
 ghost use Rattle.qc_core.specs.Faults.{next_count};
 
-use qc_core::{ReadEnd, Shelf, StoreEnd, is_too_long};
+use qc_core::{ReadEnd, Shelf, StoreEnd, is_too_long, wanted_after};
 use std::alloc::Global;
 use std::fs;
 use std::io::{Read, Write};
 use std::rt::Files;
 
-/// Reads to the end, or until there are more bytes than a file may have.
+/// Reads to the end, or until there is one byte more than a file may have.
 pub(crate) fn read_to_limit<F: Read>(alloc: Global, file: &mut F) -> Result<Vec<u8>, ReadEnd>
     ensures limit { IfOk result (λ bytes. length bytes.items ≤ file_limit) }
     ensures whole { IfOk result (λ bytes. IfSome (F.remaining file.old) (λ held. bytes.items ≡ held)) }
-    ensures too_long { IsErrOf result ReadEnd.TooLong → IfSome (F.remaining file.old) (λ held. file_limit < length held) }
+    ensures too_long { IsErrOf result ReadEnd.TooLong → IfSome (F.remaining file.old) (λ held.
+        file_limit < length held) }
 {
     let mut bytes = Vec::new(alloc);
     let mut buffer = [0u8; 4096];
     while !is_too_long(bytes.len()) {
-        let count = match file.read(&mut buffer) {
+        let room = wanted_after(bytes.len()).min(buffer.len());
+        let count = match file.read(&mut buffer[..room]) {
             Ok(0) => return Ok(bytes),
             Ok(count) => count,
             Err(_) => return Err(ReadEnd::Failed),
@@ -32,11 +35,11 @@ pub(crate) fn read_to_limit<F: Read>(alloc: Global, file: &mut F) -> Result<Vec<
     Err(ReadEnd::TooLong)
 }
 
-/// Writes the bytes. A write that takes none of them fails. After a failure a front of them may have been written, but
+/// Writes the bytes. A write that takes none of them fails. After a failure a prefix of them may have been written, but
 /// not all.
 pub(crate) fn write_whole<W: Write>(writer: &mut W, bytes: &[u8]) -> Result<(), StoreEnd>
     ensures whole { OnOk result (Appends (W.contents writer.old) (W.contents writer.new) bytes.now) }
-    ensures front { (part more : List ℕ) × (bytes.now ≡ part ++ more)
+    ensures prefix { (part more : List ℕ) × (bytes.now ≡ part ++ more)
         × Appends (W.contents writer.old) (W.contents writer.new) part × (IsErr result → more ≢ []) }
     ensures err { IfErr result (λ end. end ≡ StoreEnd.Failed) }
 {

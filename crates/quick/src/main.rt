@@ -2,7 +2,7 @@
 #![tactic(auto)]
 
 ghost use Rattle.std.specs.Prelude.{◌≡◌};
-ghost use Rattle.quick.specs.Numbers.{number_of as number};
+ghost use Rattle.quick.specs.ExitCode.{exit_code_of as code_of};
 
 mod arguments;
 mod files;
@@ -14,9 +14,9 @@ use output::StandardOut;
 use qc_core::Status;
 use std::process::ExitCode;
 
-/// The number that a status ends the process with.
-fn number_of(status: Status) -> u8
-    ensures { result ≡ number status }
+/// The exit code that tells a status.
+fn exit_code_of(status: Status) -> u8
+    ensures { result ≡ code_of status }
 {
     match status {
         Status::Done => 0,
@@ -38,5 +38,5 @@ fn main(rt: HostRuntime) -> ExitCode {
         }
         Err(_) => Status::NoMemory,
     };
-    ExitCode::from(number_of(status))
+    ExitCode::from(exit_code_of(status))
 }

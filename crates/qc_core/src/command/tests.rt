@@ -2,14 +2,14 @@ use super::*;
 use crate::memory_files::MemShelf;
 use crate::memory_out::MemOut;
 
-type Outcome = Result<(), AllocError>;
+type Outcome = Result<(), NoMemory>;
 
 const SEVEN: &[u8] = b"target byteorder little wordsize 32; main() { %out(7); return(0); }\n";
 
 const STAND_INS: [&[u8]; 3] = [b"machine tin32;\n", b"coding tin32\n", b"tables tin32 1;\n"];
 
-/// The words `compile a b c d e`, as far as there are words.
-fn words(alloc: Global, list: &[&str]) -> Result<Vec<String>, AllocError> {
+/// The words of a list.
+fn words(alloc: Global, list: &[&str]) -> Result<Vec<String>, NoMemory> {
     let mut words = Vec::new(alloc);
     for word in list {
         words.push(String::from_str(alloc, word)?)?;
@@ -18,7 +18,7 @@ fn words(alloc: Global, list: &[&str]) -> Result<Vec<String>, AllocError> {
 }
 
 /// A shelf with the three stand-in texts and this program in the files `a` to `d`.
-fn shelf(alloc: Global, program: &[u8], failing: &[u64]) -> Result<MemShelf, AllocError> {
+fn shelf(alloc: Global, program: &[u8], failing: &[u64]) -> Result<MemShelf, NoMemory> {
     let mut files = Vec::new(alloc);
     for (name, content) in ["a", "b", "c"].iter().zip(&STAND_INS) {
         files.push((
@@ -47,7 +47,7 @@ fn run(
     program: &[u8],
     failing: &[u64],
     failing_puts: &[u64],
-) -> Result<Left, AllocError> {
+) -> Result<Left, NoMemory> {
     let words = words(alloc, list)?;
     let mut shelf = shelf(alloc, program, failing)?;
     let mut out = MemOut::new(alloc, Vec::from_slice(alloc, failing_puts)?);
@@ -59,7 +59,7 @@ fn is_put(left: &Left, lines: &str) -> bool {
     left.out.written() == lines.as_bytes()
 }
 
-fn has_image(alloc: Global, left: &Left) -> Result<bool, AllocError> {
+fn has_image(alloc: Global, left: &Left) -> Result<bool, NoMemory> {
     Ok(left.shelf.file(&String::from_str(alloc, "e")?).is_some())
 }
 
@@ -87,7 +87,7 @@ fn stores_the_image_of_seven(rt: HostRuntime) -> Outcome {
 }
 
 /// A program that puts out 1 so many times.
-fn ones(alloc: Global, count: usize) -> Result<Vec<u8>, AllocError> {
+fn ones(alloc: Global, count: usize) -> Result<Vec<u8>, NoMemory> {
     let mut text = Vec::new(alloc);
     text.extend_from_slice(b"target byteorder little wordsize 32; main() { ")?;
     for _ in 0..count {
@@ -198,8 +198,31 @@ fn tells_each_fault(rt: HostRuntime) -> Outcome {
     let left = run(alloc, &COMPILE, SEVEN, &[], &[1])?;
     assert_eq!(rt; left.status, Status::OutFault);
     assert!(rt; has_image(alloc, &left)?);
+    let left = run(alloc, &COMPILE, SEVEN, &[6], &[2])?;
+    assert_eq!(rt; left.status, Status::Done);
     let left = run(alloc, &COMPILE, b"", &[], &[1])?;
     let fault = Fault::NotYet { form: 4 };
     assert_eq!(rt; left.status, Status::Refused { fault });
+    Ok(())
+}
+
+#[test]
+fn refuses_files_that_are_too_long(rt: HostRuntime) -> Outcome {
+    let alloc = rt.alloc();
+    let mut text = Vec::from_slice(alloc, SEVEN)?;
+    for (len, fault, line) in [
+        (4_194_304, Fault::NotYet { form: 4 }, "refused: NotYet 4\n"),
+        (
+            4_194_305,
+            Fault::TooLong { file: 4 },
+            "refused: TooLong 4\n",
+        ),
+    ] {
+        text.resize(len, b' ')?;
+        let left = run(alloc, &COMPILE, text.as_slice(), &[], &[])?;
+        assert_eq!(rt; left.status, Status::Refused { fault });
+        assert!(rt; is_put(&left, line));
+        assert!(rt; !has_image(alloc, &left)?);
+    }
     Ok(())
 }

@@ -4,7 +4,7 @@ use crate::constants::ConstantProgram;
 use crate::machines::tin32;
 
 #[test]
-fn runs_the_image_of_seven(rt: HostRuntime) -> Result<(), AllocError> {
+fn runs_the_image_of_seven(rt: HostRuntime) -> Result<(), NoMemory> {
     let alloc = rt.alloc();
     let descr = tin32(alloc)?;
     let program = ConstantProgram {

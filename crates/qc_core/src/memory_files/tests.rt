@@ -2,9 +2,9 @@ use super::*;
 use crate::memory_out::MemOut;
 use crate::outside::Out;
 
-type Outcome = Result<(), AllocError>;
+type Outcome = Result<(), NoMemory>;
 
-fn text(alloc: Global, name: &str) -> Result<String, AllocError> {
+fn text(alloc: Global, name: &str) -> Result<String, NoMemory> {
     String::from_str(alloc, name)
 }
 
@@ -13,10 +13,10 @@ fn shelf(
     names: &[&str],
     contents: &[&[u8]],
     failing: &[u64],
-) -> Result<MemShelf, AllocError> {
+) -> Result<MemShelf, NoMemory> {
     let mut files = Vec::new(alloc);
     for (name, content) in names.iter().zip(contents) {
-        files.push((text(alloc, name)?, copied(alloc, content)?))?;
+        files.push((text(alloc, name)?, Vec::from_slice(alloc, content)?))?;
     }
     let mut numbers = Vec::new(alloc);
     numbers.extend_from_slice(failing)?;

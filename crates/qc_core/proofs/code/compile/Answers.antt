@@ -4,7 +4,8 @@ use Rattle.std.specs.Prelude.{◌++◌}
 use Rattle.qc_terms.specs.declared.image.Image.{Image}
 use Rattle.qc_descr.specs.Loading.{FitsMachine}
 use Rattle.qc_core.specs.Agreement.{Agrees}
-use Rattle.qc_core.specs.Code.{instance_bytes, instructions_for, output_bytes, return_bytes}
+use Rattle.qc_core.specs.Code.{instructions_for, output_bytes, return_bytes}
+use Rattle.qc_descr.specs.Encoding.{instance_bytes}
 use Rattle.qc_core.proofs.Emitted.{code_bytes, code_size, image_fits}
 use Rattle.qc_core.proofs.Agreement.{agreement}
 use Rattle.qc_core.proofs.code.compile.Goals as goal

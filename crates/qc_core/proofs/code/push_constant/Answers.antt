@@ -1,6 +1,10 @@
+use Rattle.qc_core.proofs.Tin32Valid.{tin32_valid}
 use Rattle.qc_core.proofs.Emitted.{load_is_instance}
 use Rattle.qc_core.proofs.code.push_constant.Goals as goal
 
 pub push_instruction-requires-clause-instance : goal.push_instruction-requires-clause-instance
 push_instruction-requires-clause-instance c =
-    rw (c.requires.machine, c.from.ensures) (load_is_instance c.args.word c.ranges.word.fits)
+    rw (c.requires, c.from.ensures) (load_is_instance c.args.word c.ranges.word.fits)
+
+pub push_instruction-requires-clause-valid : goal.push_instruction-requires-clause-valid
+push_instruction-requires-clause-valid c = rw c.requires tin32_valid

@@ -1,5 +1,5 @@
-use Rattle.std.proofs.Common.{arith}
+use Rattle.qc_core.proofs.Emitted.{is_writable}
 use Rattle.qc_core.proofs.command.image_file.Goals as goal
 
-pub write_image-requires-clause-code : goal.write_image-requires-clause-code
-write_image-requires-clause-code c = omega (arith, c.in_ok-image.ensures.size, c.requires.few)
+pub write_image-requires : goal.write_image-requires
+write_image-requires c = is_writable _ _ c.in_ok-descr.ensures.valid c.in_ok-image.ensures.fits

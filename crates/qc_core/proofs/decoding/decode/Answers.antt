@@ -2,7 +2,7 @@ use Rattle.std.proofs.Common.{◌≡◌, ◌≤◌, length, sum, take, drop, Som
 use Rattle.std.specs.List.{slice_get}
 use Rattle.qc_descr.specs.Description.{size_of}
 use Rattle.qc_descr.specs.Valid.{IsCovered}
-use Rattle.qc_core.specs.Decoding.{IsCodedBy}
+use Rattle.qc_descr.specs.Encoding.{IsCodedBy}
 use Rattle.qc_core.proofs.Instances.{coded_length, covered_item, encodes_at, few_bits, none_all, none_more}
 use Rattle.qc_core.proofs.decoding.decode.Goals as goal
 

@@ -5,8 +5,7 @@ use Rattle.std.proofs.lemmas.List.{length-map, length_push}
 use Rattle.std.proofs.lemmas.Option.{same_Some, slice_get_within}
 use Rattle.qc_descr.specs.declared.description.OperandKind.{OperandKind}
 use Rattle.qc_descr.specs.Description.{kinds_of}
-use Rattle.qc_descr.specs.Encoding.{coded_bytes}
-use Rattle.qc_core.specs.Decoding.{IsCodedBy}
+use Rattle.qc_descr.specs.Encoding.{coded_bytes, IsCodedBy}
 use Rattle.qc_core.proofs.DecodedOperands.{range_take_more, read_more}
 use Rattle.qc_core.proofs.Instances.{coded_length, few_bits, kind_read, read_all}
 use Rattle.qc_core.proofs.decoding.decode_instruction.Goals as goal

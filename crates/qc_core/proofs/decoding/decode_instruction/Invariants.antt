@@ -1,6 +1,6 @@
 use Rattle.std.proofs.Common.{◌≡◌, ℕ, List, length, take}
 use Rattle.qc_descr.specs.Description.{AreInRange, kinds_of}
-use Rattle.qc_core.specs.Decoding.{IsCodedBy}
+use Rattle.qc_descr.specs.Encoding.{IsCodedBy}
 use Rattle.qc_core.proofs.decoding.decode_instruction.Given as goal
 
 abbrev pub invariant-loop-number : goal.invariant-loop-number

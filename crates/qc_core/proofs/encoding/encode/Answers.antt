@@ -26,10 +26,12 @@ returns-clause-encoded c =
     record {
       instruction = c.requires.instance.instruction;
       is = c.requires.instance.is;
-      in_range = c.requires.instance.in_range;
-      bytes_are = c.encode_coding.ensures.encoded
-          ∙ ap (λ (i : Instruction). coded_bytes c.args.descr.now.facts.order i.coding c.as_slice-2.result.now) same
-          ∙ ap (coded_bytes c.args.descr.now.facts.order c.requires.instance.instruction.coding) c.as_slice-2.ensures;
+      coded = record {
+        in_range = c.requires.instance.in_range;
+        bytes_are = c.encode_coding.ensures.encoded
+            ∙ ap (λ (i : Instruction). coded_bytes c.args.descr.now.facts.order i.coding c.as_slice-2.result.now) same
+            ∙ ap (coded_bytes c.args.descr.now.facts.order c.requires.instance.instruction.coding) c.as_slice-2.ensures;
+      };
     }
 
 pub returns-clause-some : goal.returns-clause-some

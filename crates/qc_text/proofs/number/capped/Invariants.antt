@@ -6,4 +6,5 @@ use Rattle.qc_text.proofs.number.capped.Given as goal
 abbrev pub invariant-loop-digit : goal.invariant-loop-digit
 invariant-loop-digit l =
     (l.value ≤ 2 ^ 64)
-    × (min (number_on l.base l.value (drop l.digit-index l.digits)) (2 ^ 64) ≡ min (number_on l.base 0 l.digits) (2 ^ 64))
+    × (min (number_on l.base l.value (drop l.digit-index l.digits)) (2 ^ 64)
+    ≡ min (number_on l.base 0 l.digits) (2 ^ 64))

@@ -4,7 +4,7 @@ use Rattle.qc_terms.specs.declared.state.State.{State}
 use Rattle.qc_terms.specs.Effects.{outcome_of_trap}
 use Rattle.qc_descr.specs.Description.{AreInRange, kinds_of}
 use Rattle.qc_descr.specs.Step.{IsUndecodable, Steps}
-use Rattle.qc_core.specs.Machine.{IsMachineOf}
+use Rattle.qc_descr.specs.Machine.{IsMachineOf}
 use Rattle.qc_core.proofs.Instances.{range_read, same_read, within_read}
 use Rattle.qc_core.proofs.Steps.{facts_kept, few_there, machine_kept, operands_there, step_done, steps_trapped, typed_there}
 use Rattle.qc_core.proofs.machine.Machine.step.Goals as goal
@@ -42,7 +42,7 @@ apply_rtl-requires-clause-operands c =
     let is : slice_get c.args.descr.now.instructions c.in-Some-decode.instance.instruction ≡ Some c.index-as_slice-instance.result =
     same_read c.args.descr.now c.as_slice.result.now c.in-Some-decode.instance.instruction _ c.index-as_slice-instance.result c.as_slice.ensures c.in-Some-decode.ensures.found.encodes.is c.index-as_slice-instance.is in
     let range : AreInRange c.args.descr.now (kinds_of c.index-as_slice-instance.result) c.in-Some-decode.instance.operands.items =
-    range_read c.args.descr.now c.in-Some-decode.instance.instruction c.in-Some-decode.instance.operands.items c.index-as_slice-instance.result _ is c.in-Some-decode.ensures.found.encodes.is c.in-Some-decode.ensures.found.encodes.in_range in
+    range_read c.args.descr.now c.in-Some-decode.instance.instruction c.in-Some-decode.instance.operands.items c.index-as_slice-instance.result _ is c.in-Some-decode.ensures.found.encodes.is c.in-Some-decode.ensures.found.encodes.coded.in_range in
     operands_there c.args.descr.now c.self.inside.state c.in-Some-decode.instance.instruction c.index-as_slice-instance.result c.as_slice-2.result.now
     c.requires.valid made is (subst (AreInRange c.args.descr.now (kinds_of c.index-as_slice-instance.result)) (sym c.as_slice-2.ensures) range)
 

@@ -1,0 +1,2 @@
+pub mod LambdaRtl
+pub mod Printed

@@ -1,0 +1,258 @@
+//! The reader of items: facts of a machine, and declarations.
+ghost use Rattle.std.specs.Prelude.{◌≡◌};
+ghost use Rattle.qc_text.specs.Gives.{Gives};
+ghost use Rattle.qc_text.specs.Reading.{reads, first, next_in};
+ghost use Rattle.qc_text.specs.Grammar.{nonterminal};
+ghost use Rattle.qc_lrtl.specs.LambdaRtl.{lambda_rtl, order, single, region, flags, of_cells, declaration, item};
+ghost use Rattle.qc_lrtl.specs.LambdaRtl.{ended_item, items};
+
+use crate::effects::read_rtl;
+use crate::expressions::read_any_expr;
+use crate::number::read_number;
+use crate::params::{read_operands, read_params};
+use crate::syntax::{ByteOrder, Item};
+use qc_text::{Cursor, Kind, Stop};
+use sqlite_items::Items;
+use std::alloc::Global;
+
+#[tactic(auto, unfolding(crate::specs::LambdaRtl::order))]
+fn read_order(cursor: &mut Cursor<'_>) -> Result<ByteOrder, Stop>
+    ensures { Gives result cursor.old cursor.new (reads lambda_rtl order) }
+{
+    if cursor.is_word(b"little") {
+        cursor.word(b"little")?;
+        Ok(ByteOrder::Little)
+    } else {
+        cursor.word(b"big")?;
+        Ok(ByteOrder::Big)
+    }
+}
+
+#[tactic(auto, unfolding(crate::specs::LambdaRtl::single))]
+fn read_single(alloc: Global, cursor: &mut Cursor<'_>) -> Result<Item, Stop>
+    ensures { Gives result cursor.old cursor.new (reads lambda_rtl single) }
+{
+    if cursor.is_word(b"word") {
+        let token = cursor.word(b"word")?;
+        let bits = read_number(alloc, cursor)?;
+        Ok(Item::Word { token, bits })
+    } else if cursor.is_word(b"byteorder") {
+        let token = cursor.word(b"byteorder")?;
+        let order = read_order(cursor)?;
+        Ok(Item::ByteOrder { token, order })
+    } else if cursor.is_word(b"align") {
+        let token = cursor.word(b"align")?;
+        let bytes = read_number(alloc, cursor)?;
+        Ok(Item::Align { token, bytes })
+    } else {
+        let token = cursor.word(b"slotbits")?;
+        let bits = read_number(alloc, cursor)?;
+        Ok(Item::SlotBits { token, bits })
+    }
+}
+
+#[tactic(auto, unfolding(crate::specs::LambdaRtl::region))]
+fn read_region(alloc: Global, cursor: &mut Cursor<'_>) -> Result<Item, Stop>
+    ensures { Gives result cursor.old cursor.new (reads lambda_rtl region) }
+{
+    if cursor.is_word(b"memory") {
+        let token = cursor.word(b"memory")?;
+        let bytes = read_number(alloc, cursor)?;
+        Ok(Item::Memory { token, bytes })
+    } else if cursor.is_word(b"code") {
+        let token = cursor.word(b"code")?;
+        let end = read_number(alloc, cursor)?;
+        Ok(Item::Code { token, end })
+    } else {
+        let token = cursor.word(b"data")?;
+        let end = read_number(alloc, cursor)?;
+        Ok(Item::Data { token, end })
+    }
+}
+
+#[tactic(auto, unfolding(crate::specs::LambdaRtl::flags))]
+fn read_flags(cursor: &mut Cursor<'_>) -> Result<bool, Stop>
+    ensures { Gives result cursor.old cursor.new (reads lambda_rtl flags) }
+{
+    if cursor.is_word(b"flags") {
+        cursor.word(b"flags")?;
+        Ok(true)
+    } else {
+        Ok(false)
+    }
+}
+
+#[tactic(auto, unfolding(crate::specs::LambdaRtl::of_cells))]
+fn read_of_cells(alloc: Global, cursor: &mut Cursor<'_>) -> Result<Item, Stop>
+    ensures { Gives result cursor.old cursor.new (reads lambda_rtl of_cells) }
+{
+    if cursor.is_word(b"space") {
+        let token = cursor.word(b"space")?;
+        let name = cursor.ident(alloc, Kind::Name)?;
+        let cells = read_number(alloc, cursor)?;
+        cursor.word(b"cells")?;
+        let bits = read_number(alloc, cursor)?;
+        cursor.word(b"bits")?;
+        let flags = read_flags(cursor)?;
+        Ok(Item::Space {
+            token,
+            name,
+            cells,
+            bits,
+            flags,
+        })
+    } else if cursor.is_word(b"zero") {
+        let token = cursor.word(b"zero")?;
+        let space = cursor.ident(alloc, Kind::Name)?;
+        let cell = read_number(alloc, cursor)?;
+        Ok(Item::Zero { token, space, cell })
+    } else if cursor.is_word(b"frame") {
+        let token = cursor.word(b"frame")?;
+        let space = cursor.ident(alloc, Kind::Name)?;
+        let cell = read_number(alloc, cursor)?;
+        Ok(Item::Frame { token, space, cell })
+    } else if cursor.is_word(b"link") {
+        let token = cursor.word(b"link")?;
+        let space = cursor.ident(alloc, Kind::Name)?;
+        let cell = read_number(alloc, cursor)?;
+        Ok(Item::Link { token, space, cell })
+    } else {
+        let token = cursor.word(b"allocatable")?;
+        let space = cursor.ident(alloc, Kind::Name)?;
+        let first = read_number(alloc, cursor)?;
+        cursor.word(b"..")?;
+        let last = read_number(alloc, cursor)?;
+        Ok(Item::Allocatable {
+            token,
+            space,
+            first,
+            last,
+        })
+    }
+}
+
+#[tactic(auto, unfolding(crate::specs::LambdaRtl::declaration))]
+fn read_declaration(alloc: Global, cursor: &mut Cursor<'_>) -> Result<Item, Stop>
+    ensures { Gives result cursor.old cursor.new (reads lambda_rtl declaration) }
+{
+    if cursor.is_word(b"fun") {
+        let token = cursor.word(b"fun")?;
+        let name = cursor.ident(alloc, Kind::Name)?;
+        let params = read_params(alloc, cursor)?;
+        cursor.word(b"=")?;
+        let body = read_any_expr(alloc, cursor)?;
+        Ok(Item::Function {
+            token,
+            name,
+            params,
+            body,
+        })
+    } else if cursor.is_word(b"eff") {
+        let token = cursor.word(b"eff")?;
+        let name = cursor.ident(alloc, Kind::Name)?;
+        let params = read_params(alloc, cursor)?;
+        cursor.word(b"=")?;
+        let body = read_rtl(alloc, cursor)?;
+        Ok(Item::Effects {
+            token,
+            name,
+            params,
+            body,
+        })
+    } else {
+        let token = cursor.word(b"instr")?;
+        let name = cursor.ident(alloc, Kind::Name)?;
+        let operands = read_operands(alloc, cursor)?;
+        cursor.word(b"=")?;
+        let body = read_rtl(alloc, cursor)?;
+        Ok(Item::Instruction {
+            token,
+            name,
+            operands,
+            body,
+        })
+    }
+}
+
+#[tactic(auto, unfolding(crate::specs::LambdaRtl::single))]
+fn begins_single(cursor: &Cursor<'_>) -> bool
+    ensures { result ≡ next_in (first lambda_rtl single) cursor.now }
+{
+    cursor.is_word(b"word")
+        || cursor.is_word(b"byteorder")
+        || cursor.is_word(b"align")
+        || cursor.is_word(b"slotbits")
+}
+
+#[tactic(auto, unfolding(crate::specs::LambdaRtl::region))]
+fn begins_region(cursor: &Cursor<'_>) -> bool
+    ensures { result ≡ next_in (first lambda_rtl region) cursor.now }
+{
+    cursor.is_word(b"memory") || cursor.is_word(b"code") || cursor.is_word(b"data")
+}
+
+#[tactic(auto, unfolding(crate::specs::LambdaRtl::of_cells))]
+fn begins_of_cells(cursor: &Cursor<'_>) -> bool
+    ensures { result ≡ next_in (first lambda_rtl of_cells) cursor.now }
+{
+    cursor.is_word(b"space")
+        || cursor.is_word(b"zero")
+        || cursor.is_word(b"frame")
+        || cursor.is_word(b"link")
+        || cursor.is_word(b"allocatable")
+}
+
+#[tactic(auto, unfolding(crate::specs::LambdaRtl::declaration))]
+fn begins_declaration(cursor: &Cursor<'_>) -> bool
+    ensures { result ≡ next_in (first lambda_rtl declaration) cursor.now }
+{
+    cursor.is_word(b"fun") || cursor.is_word(b"eff") || cursor.is_word(b"instr")
+}
+
+#[tactic(auto, unfolding(crate::specs::LambdaRtl::ended_item, crate::specs::LambdaRtl::item, crate::specs::LambdaRtl::single, crate::specs::LambdaRtl::region, crate::specs::LambdaRtl::of_cells, crate::specs::LambdaRtl::declaration))]
+fn begins_item(cursor: &Cursor<'_>) -> bool
+    ensures { result ≡ next_in (first lambda_rtl ended_item) cursor.now }
+{
+    begins_single(cursor)
+        || begins_region(cursor)
+        || begins_of_cells(cursor)
+        || begins_declaration(cursor)
+}
+
+#[tactic(auto, unfolding(crate::specs::LambdaRtl::item))]
+fn read_item(alloc: Global, cursor: &mut Cursor<'_>) -> Result<Item, Stop>
+    ensures { Gives result cursor.old cursor.new (reads lambda_rtl item) }
+{
+    if begins_single(cursor) {
+        read_single(alloc, cursor)
+    } else if begins_region(cursor) {
+        read_region(alloc, cursor)
+    } else if begins_of_cells(cursor) {
+        read_of_cells(alloc, cursor)
+    } else {
+        read_declaration(alloc, cursor)
+    }
+}
+
+#[tactic(auto, unfolding(crate::specs::LambdaRtl::ended_item))]
+fn read_ended_item(alloc: Global, cursor: &mut Cursor<'_>) -> Result<Item, Stop>
+    ensures { Gives result cursor.old cursor.new (reads lambda_rtl ended_item) }
+{
+    let item = read_item(alloc, cursor)?;
+    cursor.word(b";")?;
+    Ok(item)
+}
+
+#[tactic(auto, unfolding(crate::specs::LambdaRtl::items))]
+pub(crate) fn read_items(alloc: Global, cursor: &mut Cursor<'_>) -> Result<Items<Item>, Stop>
+    ensures { Gives result cursor.old cursor.new (reads lambda_rtl items) }
+{
+    let mut items = Items::new(alloc);
+    while begins_item(cursor) {
+        match read_ended_item(alloc, cursor) {
+            Ok(item) => items.push(item)?,
+            Err(stop) => return Err(stop),
+        }
+    }
+    Ok(items)
+}

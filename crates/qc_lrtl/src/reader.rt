@@ -1,0 +1,93 @@
+//! The reader of whole texts.
+ghost use Rattle.std.specs.Prelude.{◌≡◌, length};
+ghost use Rattle.qc_text.specs.Inside.{InSource, IsEnded};
+ghost use Rattle.qc_text.specs.Lexeme.{lexemes};
+ghost use Rattle.qc_text.specs.Gives.{Gives};
+ghost use Rattle.qc_text.specs.Reading.{reads};
+ghost use Rattle.qc_text.specs.Clean.{text};
+ghost use Rattle.qc_text.specs.Answer.{Answers};
+ghost use Rattle.qc_text.specs.TextAnswer.{AnswersText};
+ghost use Rattle.qc_lrtl.specs.LambdaRtl.{lambda_rtl, reserved, machine};
+
+use crate::items::read_items;
+use crate::syntax::RawMachine;
+use qc_text::{Cursor, Kind, ReadError, ReadTextEnd, Stop, Token, answer, begin, scan, settle};
+use std::alloc::Global;
+
+const RESERVED: [&[u8]; 34] = [
+    b"machine",
+    b"word",
+    b"byteorder",
+    b"little",
+    b"big",
+    b"align",
+    b"slotbits",
+    b"memory",
+    b"code",
+    b"data",
+    b"space",
+    b"cells",
+    b"bits",
+    b"flags",
+    b"zero",
+    b"frame",
+    b"link",
+    b"allocatable",
+    b"fun",
+    b"eff",
+    b"instr",
+    b"imm",
+    b"addr",
+    b"when",
+    b"pc",
+    b"out",
+    b"halt",
+    b"trap",
+    b"mem",
+    b"input",
+    b"after",
+    b"zx",
+    b"sx",
+    b"slice",
+];
+
+#[tactic(auto, unfolding(crate::specs::LambdaRtl::machine))]
+fn read_machine(alloc: Global, cursor: &mut Cursor<'_>) -> Result<RawMachine, Stop>
+    ensures { Gives result cursor.old cursor.new (reads lambda_rtl machine) }
+{
+    cursor.word(b"machine")?;
+    let name = cursor.ident(alloc, Kind::Name)?;
+    cursor.word(b";")?;
+    let items = read_items(alloc, cursor)?;
+    Ok(RawMachine { name, items })
+}
+
+fn read_whole(alloc: Global, cursor: &mut Cursor<'_>) -> Result<RawMachine, Stop>
+    ensures { Gives result cursor.old cursor.new (reads lambda_rtl (text machine)) }
+{
+    let machine = read_machine(alloc, cursor)?;
+    cursor.end()?;
+    Ok(machine)
+}
+
+/// The tree that the tokens of a source spell.
+fn read_tokens(alloc: Global, source: &[u8], tokens: &[Token]) -> Result<RawMachine, ReadError>
+    requires inside { InSource (length source.now) tokens.now }
+    requires ended { IsEnded tokens.now }
+    ensures { Answers lambda_rtl machine (lexemes reserved source.now tokens.now) result }
+{
+    let (mut cursor, deep) = begin(source, &RESERVED, tokens);
+    let given = cursor.left();
+    let read = read_whole(alloc, &mut cursor);
+    settle(read, deep, given, cursor.left())
+}
+
+/// The tree of a machine's text, with numbers of tokens counted from 0. A text has at most 200 open brackets.
+pub fn read_lrtl(alloc: Global, bytes: &[u8]) -> Result<RawMachine, ReadTextEnd>
+    ensures { AnswersText lambda_rtl machine reserved bytes.now result }
+{
+    match scan(alloc, bytes) {
+        Ok(tokens) => answer(read_tokens(alloc, bytes, tokens.as_slice())),
+        Err(end) => Err(end),
+    }
+}

@@ -1,0 +1,438 @@
+use super::*;
+use qc_text::{Ident, Number, ReadTextEnd, ReadTextFault};
+use std::alloc::{AllocError, Global};
+use std::process::Abort;
+
+/// Each text has a tree, with so many items.
+fn expect_items(rt: &impl Abort, alloc: Global, rows: &[(&[u8], usize)]) {
+    for &(text, items) in rows {
+        let raw = read_lrtl(alloc, text).expect(rt, "a tree");
+        assert_eq!(rt; raw.items.len(), items, "of {text:?}");
+    }
+}
+
+fn expect_fault(rt: &impl Abort, alloc: Global, text: &[u8], fault: ReadTextFault) {
+    let Err(end) = read_lrtl(alloc, text) else {
+        panic!(rt; "{text:?} has a tree");
+    };
+    assert_eq!(rt; end, ReadTextEnd::Fault { fault }, "in {text:?}");
+}
+
+/// The token with this number is the first with which no text begins.
+fn expect_syntax(rt: &impl Abort, alloc: Global, rows: &[(&[u8], usize)]) {
+    for &(text, token) in rows {
+        expect_fault(rt, alloc, text, ReadTextFault::Syntax { token });
+    }
+}
+
+fn is_ident(ident: &Ident, token: usize, text: &[u8]) -> bool {
+    ident.token == token && ident.text.as_slice() == text
+}
+
+fn is_number(number: &Number, token: usize, value: u128) -> bool {
+    *number == Number { token, value }
+}
+
+#[test]
+fn texts_of_the_grammar(rt: HostRuntime) {
+    let rows: [(&[u8], usize); 16] = [
+        (b"machine m;", 0),
+        (b"machine _Machine9;", 0),
+        (
+            b"machine m;word 32;byteorder little;align 2;slotbits 12;memory 0x1000000;code 0x80000;data 0x800000;",
+            7,
+        ),
+        (b"machine m;byteorder big;", 1),
+        (
+            b"machine m;space r 32 cells 32 bits;space f 3 cells 1 bits flags;",
+            2,
+        ),
+        (
+            b"machine m;zero r 0;frame r 2;link r 1;allocatable r 5 .. 31;",
+            4,
+        ),
+        (
+            b"machine m;fun f()=input;fun g(a)=a;fun h(a,b/2)=b(a,1'32);",
+            3,
+        ),
+        (b"machine m;eff e()=out:=after;eff d(a)=a:=1'8|pc:=a;", 2),
+        (
+            b"machine m;instr i()=halt:=r[0];instr j(a:r,b:imm 12,c:addr)=a:=add(b,c);",
+            2,
+        ),
+        (
+            b"machine m;instr i(a:r)=when eq(a,0'32)=>pc:=after|when a=>e(a,1'1)|e();",
+            1,
+        ),
+        (b"machine m;instr i()=mem 8[1'32]:=slice 0 8(r[3]);", 1),
+        (
+            b"machine m;instr i()=r[2]:=zx 32(mem 16[sx 32(slice 20 12(x))])|trap:=1'8;",
+            1,
+        ),
+        (
+            b"machine m;fun f(a)=f(g(f(a),g()),r[0x1F],h(f(f(a)),1'1));",
+            1,
+        ),
+        (
+            b"/*;*/ machine // ;\n m /**/ ; /* /* */ word/*16*/32 ; // machine",
+            1,
+        ),
+        (b"\t\r\nmachine words;word 1;word 1;", 2),
+        (
+            b"machine m;word 99999999999999999999999999999999999999999;",
+            1,
+        ),
+    ];
+    expect_items(&rt, rt.alloc(), &rows);
+}
+
+#[test]
+fn syntax_of_items(rt: HostRuntime) {
+    let rows: [(&[u8], usize); 22] = [
+        (b"", 0),
+        (b"machine", 1),
+        (b"machine m", 2),
+        (b"word 32;", 0),
+        (b"machine m;word 32", 5),
+        (b"machine m;word 32 word 32;", 5),
+        (b"machine m;word;", 4),
+        (b"machine m;word 32;;", 6),
+        (b"machine m;word @ 32;", 4),
+        (b"machine m;\"word\" 32;", 3),
+        (b"machine m;%word 32;", 3),
+        (b"machine m;16 32;", 3),
+        (b"machine m;cells 32;", 3),
+        (b"machine m;byteorder middle;", 4),
+        (b"machine m;space r 32 cells 32;", 8),
+        (b"machine m;allocatable r 5 . 31;", 6),
+        (b"machine m;fun f(a,)=a;", 8),
+        (b"machine m;fun f(a/)=a;", 8),
+        (b"machine m;instr i(a)=pc:=a;", 7),
+        (b"machine m;instr i(a:imm)=pc:=a;", 9),
+        (b"machine m;instr i(a:12)=pc:=a;", 8),
+        (b"machine m; /* word 8 */ word // 16", 4),
+    ];
+    expect_syntax(&rt, rt.alloc(), &rows);
+}
+
+#[test]
+fn syntax_of_bodies(rt: HostRuntime) {
+    let rows: [(&[u8], usize); 18] = [
+        (b"machine m;fun f(a)=;", 9),
+        (b"machine m;fun f(a)=1;", 10),
+        (b"machine m;fun f(a)=a(1'8,);", 15),
+        (b"machine m;fun f(a)=a[b];", 11),
+        (b"machine m;fun f(a)=(a);", 9),
+        (b"machine m;fun f(a)=zx(a);", 10),
+        (b"machine m;fun f(a)=slice 0(a);", 11),
+        (b"machine m;fun f(a)=mem 8(a);", 11),
+        (b"machine m;fun f(a)=f(a)[1];", 13),
+        (b"machine m;fun f(a)=pc;", 9),
+        (b"machine m;eff e()=;", 8),
+        (b"machine m;eff e()=a;", 9),
+        (b"machine m;eff e()=a:=1'8|;", 14),
+        (b"machine m;eff e()=when a;", 10),
+        (b"machine m;eff e()=when a=>when b=>c();", 11),
+        (b"machine m;eff e()=pc=a;", 9),
+        (b"machine m;eff e()=a[1]=2;", 12),
+        (b"machine m;instr i()=input:=a;", 8),
+    ];
+    expect_syntax(&rt, rt.alloc(), &rows);
+}
+
+#[test]
+fn bad_bytes(rt: HostRuntime) {
+    let rows: [(&[u8], usize); 6] = [
+        (b"\x00machine m;", 0),
+        (b"machine ;#", 9),
+        (b"machine m;\"word", 10),
+        (b"machine m; /* word 32;", 11),
+        (b"machine m;word 32;*/", 18),
+        (b"((((%", 4),
+    ];
+    for (text, at) in rows {
+        expect_fault(&rt, rt.alloc(), text, ReadTextFault::BadByte { at });
+    }
+}
+
+fn put_times(out: &mut Vec<u8>, text: &[u8], times: usize) -> Result<(), AllocError> {
+    for _ in 0..times {
+        out.extend_from_slice(text)?;
+    }
+    Ok(())
+}
+
+/// A function with so many open brackets in its body, and so many closed ones.
+fn nested(alloc: Global, inner: &[u8], open: usize, closed: usize) -> Result<Vec<u8>, AllocError> {
+    let mut text = Vec::from_slice(alloc, b"machine m;fun f(a)=")?;
+    put_times(&mut text, b"f(", open)?;
+    text.extend_from_slice(inner)?;
+    put_times(&mut text, b")", closed)?;
+    text.push(b';')?;
+    Ok(text)
+}
+
+#[test]
+fn brackets(rt: HostRuntime) -> Result<(), AllocError> {
+    let text = nested(rt.alloc(), b"a", 200, 200)?;
+    expect_items(&rt, rt.alloc(), &[(text.as_slice(), 1)]);
+    let rows: [(&[u8], usize, usize, ReadTextFault); 6] = [
+        (b"a", 201, 201, ReadTextFault::TooDeep { token: 410 }),
+        (b"a", 250, 0, ReadTextFault::TooDeep { token: 410 }),
+        (b"r[1]", 200, 200, ReadTextFault::TooDeep { token: 410 }),
+        (b"a", 200, 199, ReadTextFault::Syntax { token: 609 }),
+        (b"(a)", 200, 200, ReadTextFault::Syntax { token: 409 }),
+        (b"a 1 f(", 200, 200, ReadTextFault::Syntax { token: 410 }),
+    ];
+    for (inner, open, closed, fault) in rows {
+        let text = nested(rt.alloc(), inner, open, closed)?;
+        expect_fault(&rt, rt.alloc(), text.as_slice(), fault);
+    }
+    Ok(())
+}
+
+#[test]
+fn reserved_words_are_no_names(rt: HostRuntime) -> Result<(), AllocError> {
+    let words: [&[u8]; 34] = [
+        b"machine",
+        b"word",
+        b"byteorder",
+        b"little",
+        b"big",
+        b"align",
+        b"slotbits",
+        b"memory",
+        b"code",
+        b"data",
+        b"space",
+        b"cells",
+        b"bits",
+        b"flags",
+        b"zero",
+        b"frame",
+        b"link",
+        b"allocatable",
+        b"fun",
+        b"eff",
+        b"instr",
+        b"imm",
+        b"addr",
+        b"when",
+        b"pc",
+        b"out",
+        b"halt",
+        b"trap",
+        b"mem",
+        b"input",
+        b"after",
+        b"zx",
+        b"sx",
+        b"slice",
+    ];
+    for word in words {
+        let mut text = Vec::from_slice(rt.alloc(), b"machine m;zero ")?;
+        text.extend_from_slice(word)?;
+        text.extend_from_slice(b" 0;")?;
+        expect_fault(
+            &rt,
+            rt.alloc(),
+            text.as_slice(),
+            ReadTextFault::Syntax { token: 4 },
+        );
+    }
+    Ok(())
+}
+
+#[test]
+fn numbers(rt: HostRuntime) {
+    let long = [b'7'; 400];
+    let rows: [(&[u8], u128); 6] = [
+        (b"0", 0),
+        (b"0x0fA9", 4009),
+        (b"18446744073709551615", 18446744073709551615),
+        (b"0x10000000000000000", 18446744073709551616),
+        (b"18446744073709551617", 18446744073709551616),
+        (&long, 18446744073709551616),
+    ];
+    for (digits, value) in rows {
+        let mut text = Vec::from_slice(rt.alloc(), b"machine m;word ").expect(&rt, "memory");
+        text.extend_from_slice(digits).expect(&rt, "memory");
+        text.push(b';').expect(&rt, "memory");
+        let raw = read_lrtl(rt.alloc(), text.as_slice()).expect(&rt, "a tree");
+        let [Item::Word { token: 3, bits }] = raw.items.as_slice() else {
+            panic!(&rt; "another item");
+        };
+        assert!(rt; is_number(bits, 4, value), "of {digits:?}");
+    }
+}
+
+#[test]
+fn the_tree_of_a_function(rt: HostRuntime) {
+    let text = b"machine m; fun f(a / 2) = slice 0x10 8 (r[3]);";
+    let raw = read_lrtl(rt.alloc(), text).expect(&rt, "a tree");
+    assert!(rt; is_ident(&raw.name, 1, b"m"));
+    let [
+        Item::Function {
+            token: 3,
+            name,
+            params,
+            body: Expr::Slice {
+                token: 11,
+                low,
+                bits,
+                arg,
+            },
+        },
+    ] = raw.items.as_slice()
+    else {
+        panic!(&rt; "another item");
+    };
+    assert!(rt; is_ident(name, 4, b"f"));
+    let [
+        Param {
+            name,
+            arity: Some(arity),
+        },
+    ] = params.as_slice()
+    else {
+        panic!(&rt; "other parameters");
+    };
+    assert!(rt; is_ident(name, 6, b"a") && is_number(arity, 8, 2));
+    assert!(rt; is_number(low, 12, 16) && is_number(bits, 13, 8));
+    let Expr::Cell { space, cell } = arg.get() else {
+        panic!(&rt; "another argument");
+    };
+    assert!(rt; is_ident(space, 15, b"r") && is_number(cell, 17, 3));
+}
+
+#[test]
+fn the_tree_of_an_instruction(rt: HostRuntime) {
+    let text = b"machine m; instr i(a: r) = when sx 8 (a) => pc := 1'32 | mem 8 [after] := input;";
+    let raw = read_lrtl(rt.alloc(), text).expect(&rt, "a tree");
+    let [
+        Item::Instruction {
+            token: 3,
+            name,
+            operands,
+            body,
+        },
+    ] = raw.items.as_slice()
+    else {
+        panic!(&rt; "another item");
+    };
+    assert!(rt; is_ident(name, 4, b"i"));
+    let [
+        Operand {
+            name,
+            kind: OperandKind::Register { space },
+        },
+    ] = operands.as_slice()
+    else {
+        panic!(&rt; "other operands");
+    };
+    assert!(rt; is_ident(name, 6, b"a") && is_ident(space, 8, b"r"));
+    let [first, second] = body.as_slice() else {
+        panic!(&rt; "other effects");
+    };
+    let Some(
+        Guard {
+            token: 11,
+            condition: Expr::Sx {
+                token: 12,
+                bits,
+                arg,
+            },
+        },
+    ) = &first.guard
+    else {
+        panic!(&rt; "another guard");
+    };
+    let Expr::Name { name } = arg.get() else {
+        panic!(&rt; "another condition");
+    };
+    assert!(rt; is_number(bits, 13, 8) && is_ident(name, 15, b"a"));
+    let Simple::Pc {
+        token: 18,
+        value: Expr::Literal { value, bits },
+    } = &first.simple
+    else {
+        panic!(&rt; "another effect");
+    };
+    assert!(rt; is_number(value, 20, 1) && is_number(bits, 22, 32));
+    assert!(rt; second.guard.is_none());
+    let Simple::Mem {
+        token: 24,
+        bits,
+        address: Expr::After { token: 27 },
+        value: Expr::Input { token: 30 },
+    } = &second.simple
+    else {
+        panic!(&rt; "another effect");
+    };
+    assert!(rt; is_number(bits, 25, 8));
+}
+
+/// The text that is written for the tree of a text.
+fn rewritten(rt: &impl Abort, alloc: Global, text: &[u8]) -> Vec<u8> {
+    let raw = read_lrtl(alloc, text).expect(rt, "a tree");
+    write_lrtl(alloc, &raw).expect(rt, "memory")
+}
+
+#[test]
+fn printed_texts(rt: HostRuntime) {
+    let rows: [(&[u8], &[u8]); 13] = [
+        (b"machine m;", b"machine m ; "),
+        (
+            b"machine m;word 0x20;align 2;slotbits 12;",
+            b"machine m ; word 32 ; align 2 ; slotbits 12 ; ",
+        ),
+        (
+            b"machine m;byteorder little;byteorder big;",
+            b"machine m ; byteorder little ; byteorder big ; ",
+        ),
+        (
+            b"machine m;memory 0x1000000;code 4;data 8;",
+            b"machine m ; memory 16777216 ; code 4 ; data 8 ; ",
+        ),
+        (
+            b"machine m;space r 32 cells 32 bits;zero r 0;",
+            b"machine m ; space r 32 cells 32 bits ; zero r 0 ; ",
+        ),
+        (
+            b"machine m;space f 3 cells 1 bits flags;",
+            b"machine m ; space f 3 cells 1 bits flags ; ",
+        ),
+        (
+            b"machine m;frame r 2;link r 1;allocatable r 5..31;",
+            b"machine m ; frame r 2 ; link r 1 ; allocatable r 5 .. 31 ; ",
+        ),
+        (
+            b"machine m;fun f()=input;fun g(a,b/2)=b(a,1'32);",
+            b"machine m ; fun f ( ) = input ; fun g ( a , b / 2 ) = b ( a , 1 ' 32 ) ; ",
+        ),
+        (
+            b"machine m;fun g(a)=b(a,r[0x1F],g(),mem 8[after]);",
+            b"machine m ; fun g ( a ) = b ( a , r [ 31 ] , g ( ) , mem 8 [ after ] ) ; ",
+        ),
+        (
+            b"machine m;eff e(a)=a:=zx 8(sx 4(slice 0 2(a)))|pc:=a;",
+            b"machine m ; eff e ( a ) = a := zx 8 ( sx 4 ( slice 0 2 ( a ) ) ) | pc := a ; ",
+        ),
+        (
+            b"machine m;eff e(a)=r[1]:=a|mem 8[a]:=a|out:=a|e();",
+            b"machine m ; eff e ( a ) = r [ 1 ] := a | mem 8 [ a ] := a | out := a | e ( ) ; ",
+        ),
+        (
+            b"machine m;instr j(a:r,b:imm 12,c:addr)=when a=>halt:=c;",
+            b"machine m ; instr j ( a : r , b : imm 12 , c : addr ) = when a => halt := c ; ",
+        ),
+        (
+            b"machine m;instr i()=trap:=99999999999999999999'1;",
+            b"machine m ; instr i ( ) = trap := 18446744073709551616 ' 1 ; ",
+        ),
+    ];
+    for (text, printed) in rows {
+        assert_eq!(rt; rewritten(&rt, rt.alloc(), text).as_slice(), printed);
+        assert_eq!(rt; rewritten(&rt, rt.alloc(), printed).as_slice(), printed);
+    }
+}

@@ -1,0 +1,100 @@
+//! The reader of expressions.
+ghost use Rattle.std.specs.Prelude.{◌≡◌};
+ghost use Rattle.qc_text.specs.Gives.{Gives};
+ghost use Rattle.qc_text.specs.Reading.{reads};
+ghost use Rattle.qc_text.specs.Grammar.{nonterminal, onto};
+ghost use Rattle.qc_sample.specs.Sample.{sample, any_expr, next_expr, exprs, arguments, after_name, expr};
+
+use crate::syntax::Expr;
+use qc_text::{Cursor, Ident, Kind, Stop};
+use sqlite_items::{Boxed, Items};
+use std::alloc::Global;
+
+#[cycle(expressions)]
+pub(crate) fn read_any_expr(alloc: Global, cursor: &mut Cursor<'_>) -> Result<Expr, Stop>
+    ensures { Gives result cursor.old cursor.new (reads sample (nonterminal any_expr)) }
+{
+    read_expr(alloc, cursor)
+}
+
+#[tactic(auto, unfolding(crate::specs::Sample::expr))]
+#[cycle(expressions)]
+fn read_expr(alloc: Global, cursor: &mut Cursor<'_>) -> Result<Expr, Stop>
+    ensures { Gives result cursor.old cursor.new (reads sample expr) }
+{
+    if cursor.is_any(Kind::Number) {
+        let text = cursor.ident(alloc, Kind::Number)?;
+        Ok(Expr::Number { text })
+    } else if cursor.is_word(b"not") {
+        let token = cursor.word(b"not")?;
+        let arg = Boxed::new(alloc, read_any_expr(alloc, cursor)?)?;
+        Ok(Expr::Not { token, arg })
+    } else if cursor.is_any(Kind::Name) {
+        let name = cursor.ident(alloc, Kind::Name)?;
+        read_after_name(alloc, cursor, name)
+    } else {
+        cursor.word(b"(")?;
+        let inner = Boxed::new(alloc, read_any_expr(alloc, cursor)?)?;
+        cursor.word(b")")?;
+        Ok(Expr::Group { inner })
+    }
+}
+
+#[tactic(auto, unfolding(crate::specs::Sample::after_name))]
+#[cycle(expressions)]
+fn read_after_name(alloc: Global, cursor: &mut Cursor<'_>, name: Ident) -> Result<Expr, Stop>
+    ensures { Gives result cursor.old cursor.new (reads sample (onto name after_name)) }
+{
+    if cursor.is_word(b"(") {
+        cursor.word(b"(")?;
+        let args = read_arguments(alloc, cursor)?;
+        Ok(Expr::Call { name, args })
+    } else if cursor.is_word(b"[") {
+        cursor.word(b"[")?;
+        let at = Boxed::new(alloc, read_any_expr(alloc, cursor)?)?;
+        cursor.word(b"]")?;
+        Ok(Expr::Index { name, at })
+    } else {
+        Ok(Expr::Name { name })
+    }
+}
+
+#[tactic(auto, unfolding(crate::specs::Sample::arguments))]
+#[cycle(expressions)]
+pub(crate) fn read_arguments(alloc: Global, cursor: &mut Cursor<'_>) -> Result<Items<Expr>, Stop>
+    ensures { Gives result cursor.old cursor.new (reads sample arguments) }
+{
+    if cursor.is_word(b")") {
+        cursor.word(b")")?;
+        Ok(Items::new(alloc))
+    } else {
+        let args = read_exprs(alloc, cursor)?;
+        cursor.word(b")")?;
+        Ok(args)
+    }
+}
+
+#[tactic(auto, unfolding(crate::specs::Sample::exprs))]
+#[cycle(expressions)]
+pub(crate) fn read_exprs(alloc: Global, cursor: &mut Cursor<'_>) -> Result<Items<Expr>, Stop>
+    ensures { Gives result cursor.old cursor.new (reads sample exprs) }
+{
+    let mut exprs = Items::new(alloc);
+    exprs.push(read_any_expr(alloc, cursor)?)?;
+    while cursor.is_word(b",") {
+        match read_next_expr(alloc, cursor) {
+            Ok(expr) => exprs.push(expr)?,
+            Err(stop) => return Err(stop),
+        }
+    }
+    Ok(exprs)
+}
+
+#[tactic(auto, unfolding(crate::specs::Sample::next_expr))]
+#[cycle(expressions)]
+fn read_next_expr(alloc: Global, cursor: &mut Cursor<'_>) -> Result<Expr, Stop>
+    ensures { Gives result cursor.old cursor.new (reads sample next_expr) }
+{
+    cursor.word(b",")?;
+    read_any_expr(alloc, cursor)
+}

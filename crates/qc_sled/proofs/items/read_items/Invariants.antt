@@ -1,0 +1,15 @@
+use Rattle.std.proofs.Common.{◌≡◌, ◌≤◌, length}
+use Rattle.qc_text.specs.Reading.{reads}
+use Rattle.qc_text.specs.Law.Loops.{after_items}
+use Rattle.qc_sled.specs.Sled.{sled, items}
+use Rattle.qc_sled.proofs.items.read_items.Given as goal
+
+-- the items so far, and those that reading gives, are those that reading gave before the loop
+abbrev pub invariant-loop-alloc : goal.invariant-loop-alloc
+invariant-loop-alloc l = record {
+  read : after_items l.items (reads sled items l.cursor) ≡ reads sled items l.fn.cursor;
+  shorter : length l.cursor ≤ length l.fn.cursor;
+}
+
+abbrev pub decreases-loop-alloc : goal.decreases-loop-alloc
+decreases-loop-alloc l = length l.cursor

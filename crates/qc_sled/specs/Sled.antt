@@ -1,0 +1,202 @@
+-- The grammar of coding texts, rule by rule. Words in quotes are reserved, and no names.
+use Rattle.std.specs.Prelude.{ℕ, ◌^◌, min, true, List, [], ◌∷◌, Option, codes, ◌≡◌, refl}
+use Rattle.qc_text.specs.declared.cursor.Ident.{Ident}
+use Rattle.qc_text.specs.declared.token.Kind.TheVariants as kind
+use Rattle.qc_text.specs.Lexeme.{Class, Word, Lexeme}
+use Rattle.qc_text.specs.Numerals.{number_in}
+use Rattle.qc_text.specs.Grammar.{Grammar, nonterminal, empty, repetition, ◌<+>◌, ◌*>◌, ◌<*◌, ◌<|>◌, ◌<$>◌, word, name, ident, optional, Syntax}
+use Rattle.qc_text.specs.Reading.{reads}
+use Rattle.qc_text.specs.Clean.{IsReadable, is_clean}
+use Rattle.qc_text.specs.Law.Fuel.{unroll}
+use Rattle.qc_text.specs.declared.number.Number.{Number}
+use Rattle.qc_sled.specs.declared.syntax.Field.{Field}
+use Rattle.qc_sled.specs.declared.syntax.Reach.{Reach}
+use Rattle.qc_sled.specs.declared.syntax.Reach.TheVariants.{Relative, Absolute}
+use Rattle.qc_sled.specs.declared.syntax.Param.{Param}
+use Rattle.qc_sled.specs.declared.syntax.Value.{Value}
+use Rattle.qc_sled.specs.declared.syntax.Value.TheVariants as value_of
+use Rattle.qc_sled.specs.declared.syntax.Pattern.{Pattern}
+use Rattle.qc_sled.specs.declared.syntax.Pattern.TheVariants as part
+use Rattle.qc_sled.specs.declared.syntax.Item.{Item}
+use Rattle.qc_sled.specs.declared.syntax.Item.TheVariants as declaration
+use Rattle.qc_sled.specs.declared.syntax.RawCoding.{RawCoding}
+
+-- the reserved words
+abbrev pub reserved : List (List ℕ)
+reserved =
+    codes "coding" ∷ codes "fields" ∷ codes "pattern" ∷ codes "is" ∷ codes "constructor" ∷ codes "rel"
+    ∷ codes "abs" ∷ []
+
+-- the one rule that may come inside itself
+pub data Rule : Type 0 where
+  any_pattern : Rule
+
+abbrev pub TreeOf : Rule → Type 0
+TreeOf any_pattern = Pattern
+
+-- number, with its value
+unfoldable pub number : Grammar Rule TreeOf Number
+number = number_in <$> ident kind.Number
+
+-- field = name number ":" number
+unfoldable pub field : Grammar Rule TreeOf Field
+field = (λ p. record { name = p.0; high = p.1.0; low = p.1.1 }) <$> name <+> number <* word (codes ":") <+> number
+
+-- next_field = "," field
+unfoldable pub next_field : Grammar Rule TreeOf Field
+next_field = word (codes ",") *> field
+
+-- some_fields = field { "," field }
+unfoldable pub some_fields : Grammar Rule TreeOf (List Field)
+some_fields = (λ p. p.0 ∷ p.1) <$> field <+> repetition next_field
+
+-- fields = "(" some_fields ")"
+unfoldable pub fields : Grammar Rule TreeOf (List Field)
+fields = word (codes "(") *> some_fields <* word (codes ")")
+
+-- reach = "rel" number | "abs" number
+unfoldable pub reach : Grammar Rule TreeOf Reach
+reach =
+    (λ p. Relative p.0 p.1) <$> word (codes "rel") <+> number
+    <|> (λ p. Absolute p.0 p.1) <$> word (codes "abs") <+> number
+
+-- reach_of = [ ":" reach ]
+unfoldable pub reach_of : Grammar Rule TreeOf (Option Reach)
+reach_of = optional (word (codes ":") *> reach)
+
+-- param = name reach_of
+unfoldable pub param : Grammar Rule TreeOf Param
+param = (λ p. record { name = p.0; reach = p.1 }) <$> name <+> reach_of
+
+-- next_param = "," param
+unfoldable pub next_param : Grammar Rule TreeOf Param
+next_param = word (codes ",") *> param
+
+-- some_params = param { "," param }
+unfoldable pub some_params : Grammar Rule TreeOf (List Param)
+some_params = (λ p. p.0 ∷ p.1) <$> param <+> repetition next_param
+
+-- params = "(" [ some_params ] ")"
+unfoldable pub params : Grammar Rule TreeOf (List Param)
+params = word (codes "(") *> ((λ _. []) <$> word (codes ")") <|> some_params <* word (codes ")"))
+
+-- bits = [ "{" number ".." number "}" ], after an operand's name
+unfoldable pub bits : Grammar Rule TreeOf (Ident → Value)
+bits =
+    (λ p n. value_of.Bits n p.0 p.1)
+    <$> (word (codes "{") *> number) <+> (word (codes "..") *> number <* word (codes "}"))
+    <|> empty (λ n. value_of.Operand n)
+
+-- value = number | name bits
+unfoldable pub value : Grammar Rule TreeOf Value
+value = value_of.Number <$> number <|> (λ p. p.1 p.0) <$> name <+> bits
+
+-- after_atom = [ "=" value ], after a name that begins an atom
+unfoldable pub after_atom : Grammar Rule TreeOf (Ident → Pattern)
+after_atom = (λ v n. part.Equal n v) <$> word (codes "=") *> value <|> empty (λ n. part.Name n)
+
+-- atom = name after_atom | "(" pattern ")"
+unfoldable pub atom : Grammar Rule TreeOf Pattern
+atom =
+    (λ p. p.1 p.0) <$> name <+> after_atom
+    <|> (λ p. part.Group p.0 p.1) <$> word (codes "(") <+> nonterminal any_pattern <* word (codes ")")
+
+-- next_atom = "&" atom
+unfoldable pub next_atom : Grammar Rule TreeOf Pattern
+next_atom = word (codes "&") *> atom
+
+-- atoms = atom { "&" atom }
+unfoldable pub atoms : Grammar Rule TreeOf (List Pattern)
+atoms = (λ p. p.0 ∷ p.1) <$> atom <+> repetition next_atom
+
+-- conjunction = atoms
+unfoldable pub conjunction : Grammar Rule TreeOf Pattern
+conjunction = part.Conjunction <$> atoms
+
+-- next_conjunction = ";" conjunction
+unfoldable pub next_conjunction : Grammar Rule TreeOf Pattern
+next_conjunction = word (codes ";") *> conjunction
+
+-- conjunctions = conjunction { ";" conjunction }
+unfoldable pub conjunctions : Grammar Rule TreeOf (List Pattern)
+conjunctions = (λ p. p.0 ∷ p.1) <$> conjunction <+> repetition next_conjunction
+
+-- sequence = conjunctions
+unfoldable pub sequence : Grammar Rule TreeOf Pattern
+sequence = part.Sequence <$> conjunctions
+
+-- next_sequence = "|" sequence
+unfoldable pub next_sequence : Grammar Rule TreeOf Pattern
+next_sequence = word (codes "|") *> sequence
+
+-- sequences = sequence { "|" sequence }
+unfoldable pub sequences : Grammar Rule TreeOf (List Pattern)
+sequences = (λ p. p.0 ∷ p.1) <$> sequence <+> repetition next_sequence
+
+-- pattern = sequences
+unfoldable pub pattern : Grammar Rule TreeOf Pattern
+pattern = part.Alternatives <$> sequences
+
+-- item = "fields" name number fields | "pattern" name "is" pattern | "constructor" name params "is" pattern
+unfoldable pub item : Grammar Rule TreeOf Item
+item =
+    (λ p. declaration.Fields p.0 p.1.0 p.1.1.0 p.1.1.1) <$> word (codes "fields") <+> name <+> number <+> fields
+    <|> (λ p. declaration.Pattern p.0 p.1.0 p.1.1)
+    <$> word (codes "pattern") <+> name <* word (codes "is") <+> nonterminal any_pattern
+    <|> (λ p. declaration.Constructor p.0 p.1.0 p.1.1.0 p.1.1.1)
+    <$> word (codes "constructor") <+> name <+> params <* word (codes "is") <+> nonterminal any_pattern
+
+-- items = { item }
+unfoldable pub items : Grammar Rule TreeOf (List Item)
+items = repetition item
+
+-- coding = "coding" name items
+unfoldable pub coding : Grammar Rule TreeOf RawCoding
+coding = (λ p. record { name = p.0; items = p.1 }) <$> (word (codes "coding") *> name) <+> items
+
+abbrev pub rule : (r : Rule) → Grammar Rule TreeOf (TreeOf r)
+rule any_pattern = pattern
+
+-- a pattern may go on in its last part: a name by what it is equal to, an operand by its bits, and each list of parts
+abbrev pub goes_on : Rule → List Class
+goes_on any_pattern =
+    Word (codes "=") ∷ Word (codes "{") ∷ Word (codes "&") ∷ Word (codes ";") ∷ Word (codes "|") ∷ []
+
+abbrev pub sled : Syntax Rule TreeOf
+sled = record { rule = rule; goes_on = goes_on }
+
+pub sled_is_readable : IsReadable sled coding
+unfolding number field next_field some_fields fields reach reach_of param next_param some_params params bits value
+    after_atom atom next_atom atoms conjunction next_conjunction conjunctions sequence next_sequence sequences pattern
+    item items coding
+sled_is_readable = record { rules = record { depth = 1; rules = elim [ any_pattern ↦ refl ] }; start = refl }
+
+-- the rule is read as its grammar is
+pub pattern_unrolls : (tokens : List Lexeme) → reads sled (nonterminal any_pattern) tokens ≡ reads sled pattern tokens
+pattern_unrolls = unroll sled sled_is_readable.rules any_pattern
+
+-- what the loops repeat can be repeated
+pub next_field_repeats : is_clean sled (repetition next_field) ≡ true
+unfolding number field next_field
+next_field_repeats = refl
+
+pub next_param_repeats : is_clean sled (repetition next_param) ≡ true
+unfolding number reach reach_of param next_param
+next_param_repeats = refl
+
+pub next_atom_repeats : is_clean sled (repetition next_atom) ≡ true
+unfolding number bits value after_atom atom next_atom
+next_atom_repeats = refl
+
+pub next_conjunction_repeats : is_clean sled (repetition next_conjunction) ≡ true
+unfolding number bits value after_atom atom next_atom atoms conjunction next_conjunction
+next_conjunction_repeats = refl
+
+pub next_sequence_repeats : is_clean sled (repetition next_sequence) ≡ true
+unfolding number bits value after_atom atom next_atom atoms conjunction next_conjunction conjunctions sequence
+    next_sequence
+next_sequence_repeats = refl
+
+pub item_repeats : is_clean sled (repetition item) ≡ true
+unfolding number field next_field some_fields fields reach reach_of param next_param some_params params item
+item_repeats = refl

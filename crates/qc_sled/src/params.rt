@@ -1,0 +1,86 @@
+//! The reader of the parameters of a constructor.
+ghost use Rattle.std.specs.Prelude.{◌≡◌};
+ghost use Rattle.qc_text.specs.Gives.{Gives};
+ghost use Rattle.qc_text.specs.Reading.{reads};
+ghost use Rattle.qc_sled.specs.Sled.{sled, reach, reach_of, param, next_param, some_params, params};
+
+use crate::number::read_number;
+use crate::syntax::{Param, Reach};
+use qc_text::{Cursor, Kind, Stop};
+use sqlite_items::Items;
+use std::alloc::Global;
+
+#[tactic(auto, unfolding(crate::specs::Sled::reach))]
+fn read_reach(alloc: Global, cursor: &mut Cursor<'_>) -> Result<Reach, Stop>
+    ensures { Gives result cursor.old cursor.new (reads sled reach) }
+{
+    if cursor.is_word(b"rel") {
+        let token = cursor.word(b"rel")?;
+        let bits = read_number(alloc, cursor)?;
+        Ok(Reach::Relative { token, bits })
+    } else {
+        let token = cursor.word(b"abs")?;
+        let bits = read_number(alloc, cursor)?;
+        Ok(Reach::Absolute { token, bits })
+    }
+}
+
+#[tactic(auto, unfolding(crate::specs::Sled::reach_of))]
+fn read_reach_of(alloc: Global, cursor: &mut Cursor<'_>) -> Result<Option<Reach>, Stop>
+    ensures { Gives result cursor.old cursor.new (reads sled reach_of) }
+{
+    if cursor.is_word(b":") {
+        cursor.word(b":")?;
+        let reach = read_reach(alloc, cursor)?;
+        Ok(Some(reach))
+    } else {
+        Ok(None)
+    }
+}
+
+#[tactic(auto, unfolding(crate::specs::Sled::param))]
+fn read_param(alloc: Global, cursor: &mut Cursor<'_>) -> Result<Param, Stop>
+    ensures { Gives result cursor.old cursor.new (reads sled param) }
+{
+    let name = cursor.ident(alloc, Kind::Name)?;
+    let reach = read_reach_of(alloc, cursor)?;
+    Ok(Param { name, reach })
+}
+
+#[tactic(auto, unfolding(crate::specs::Sled::next_param))]
+fn read_next_param(alloc: Global, cursor: &mut Cursor<'_>) -> Result<Param, Stop>
+    ensures { Gives result cursor.old cursor.new (reads sled next_param) }
+{
+    cursor.word(b",")?;
+    read_param(alloc, cursor)
+}
+
+#[tactic(auto, unfolding(crate::specs::Sled::some_params))]
+fn read_some_params(alloc: Global, cursor: &mut Cursor<'_>) -> Result<Items<Param>, Stop>
+    ensures { Gives result cursor.old cursor.new (reads sled some_params) }
+{
+    let mut params = Items::new(alloc);
+    params.push(read_param(alloc, cursor)?)?;
+    while cursor.is_word(b",") {
+        match read_next_param(alloc, cursor) {
+            Ok(param) => params.push(param)?,
+            Err(stop) => return Err(stop),
+        }
+    }
+    Ok(params)
+}
+
+#[tactic(auto, unfolding(crate::specs::Sled::params))]
+pub(crate) fn read_params(alloc: Global, cursor: &mut Cursor<'_>) -> Result<Items<Param>, Stop>
+    ensures { Gives result cursor.old cursor.new (reads sled params) }
+{
+    cursor.word(b"(")?;
+    if cursor.is_word(b")") {
+        cursor.word(b")")?;
+        Ok(Items::new(alloc))
+    } else {
+        let params = read_some_params(alloc, cursor)?;
+        cursor.word(b")")?;
+        Ok(params)
+    }
+}

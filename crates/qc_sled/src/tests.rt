@@ -1,0 +1,483 @@
+use super::*;
+use qc_text::{Ident, Number, ReadTextEnd, ReadTextFault};
+use std::alloc::{AllocError, Global};
+use std::process::Abort;
+
+const TIN32: &[u8] = b"coding tin32
+fields t 32 (op 7 : 0, a 11 : 8, rest 31 : 12)
+fields imm32 32 (i 31 : 0)
+constructor const (d, k) is op = 2 & a = d & rest = 0 ; i = k
+constructor op_out (s) is op = 38 & a = s & rest = 0 ; i = 0
+constructor op_halt (s) is op = 39 & a = s & rest = 0 ; i = 0
+";
+
+/// Each text has a tree, with so many items.
+fn expect_items(rt: &impl Abort, alloc: Global, rows: &[(&[u8], usize)]) {
+    for &(text, items) in rows {
+        let raw = read_sled(alloc, text).expect(rt, "a tree");
+        assert_eq!(rt; raw.items.len(), items, "of {text:?}");
+    }
+}
+
+fn expect_fault(rt: &impl Abort, alloc: Global, text: &[u8], fault: ReadTextFault) {
+    let Err(end) = read_sled(alloc, text) else {
+        panic!(rt; "{text:?} has a tree");
+    };
+    assert_eq!(rt; end, ReadTextEnd::Fault { fault }, "in {text:?}");
+}
+
+/// The token with this number is the first with which no text begins.
+fn expect_syntax(rt: &impl Abort, alloc: Global, rows: &[(&[u8], usize)]) {
+    for &(text, token) in rows {
+        expect_fault(rt, alloc, text, ReadTextFault::Syntax { token });
+    }
+}
+
+fn is_ident(ident: &Ident, token: usize, text: &[u8]) -> bool {
+    ident.token == token && ident.text.as_slice() == text
+}
+
+fn is_number(number: &Number, token: usize, value: u128) -> bool {
+    *number == Number { token, value }
+}
+
+#[test]
+fn texts_of_the_grammar(rt: HostRuntime) {
+    let rows: [(&[u8], usize); 14] = [
+        (b"coding c", 0),
+        (b"coding _Coding9", 0),
+        (b"coding c fields t 32(op 31:26)", 1),
+        (b"coding c fields t 8(a 7:4,b 3:0)fields u 16(c 15:0)", 2),
+        (b"coding c pattern p is a=1", 1),
+        (b"coding c pattern p is q", 1),
+        (b"coding c pattern p is a=1&b=2;c=3|d", 1),
+        (b"coding c pattern p is(a=1|b=0x2);(c&(d;e))", 1),
+        (b"coding c constructor f()is p", 1),
+        (
+            b"coding c constructor f(a,b:rel 16,c:abs 26)is x=a&y=b{15 .. 2};z=c",
+            1,
+        ),
+        (
+            b"coding c constructor f(a)is x=a{3..0}constructor g(b:rel 8)is p|(q)pattern r is s",
+            3,
+        ),
+        (
+            b"/*;*/ coding // fields\n c /**/ pattern /* /* */ p is // is\n a",
+            1,
+        ),
+        (b"\t\r\ncoding codings pattern relative is isa", 1),
+        (TIN32, 5),
+    ];
+    expect_items(&rt, rt.alloc(), &rows);
+}
+
+#[test]
+fn syntax_of_items(rt: HostRuntime) {
+    let rows: [(&[u8], usize); 24] = [
+        (b"", 0),
+        (b"coding", 1),
+        (b"fields t 8(a 7:0)", 0),
+        (b"coding \"c\"", 1),
+        (b"coding %c", 1),
+        (b"coding c;", 2),
+        (b"coding c field t 8(a 7:0)", 2),
+        (b"coding c fields t(a 7:0)", 4),
+        (b"coding c fields t 8", 5),
+        (b"coding c fields t 8()", 6),
+        (b"coding c fields t 8(a 7:0,)", 11),
+        (b"coding c fields t 8(a 7)", 8),
+        (b"coding c fields t 8(a 7 .. 0)", 8),
+        (b"coding c fields t 8(a 7:0", 10),
+        (b"coding c pattern p a=1", 4),
+        (b"coding c constructor f is p", 4),
+        (b"coding c constructor f(a,)is p", 7),
+        (b"coding c constructor f(a b)is p", 6),
+        (b"coding c constructor f(a:)is p", 7),
+        (b"coding c constructor f(a:rel)is p", 8),
+        (b"coding c constructor f(a:imm 8)is p", 7),
+        (b"coding c constructor f(a:abs x)is p", 8),
+        (b"coding c constructor f(a)p", 7),
+        (b"coding c constructor f()is p;", 9),
+    ];
+    expect_syntax(&rt, rt.alloc(), &rows);
+}
+
+#[test]
+fn syntax_of_patterns(rt: HostRuntime) {
+    let rows: [(&[u8], usize); 18] = [
+        (b"coding c pattern p is", 5),
+        (b"coding c pattern p is 1", 5),
+        (b"coding c pattern p is a=", 7),
+        (b"coding c pattern p is a==1", 7),
+        (b"coding c pattern p is a=(b)", 7),
+        (b"coding c pattern p is a&", 7),
+        (b"coding c pattern p is a;|b", 7),
+        (b"coding c pattern p is a|;b", 7),
+        (b"coding c pattern p is a b", 6),
+        (b"coding c pattern p is(a", 7),
+        (b"coding c pattern p is()", 6),
+        (b"coding c pattern p is a)", 6),
+        (b"coding c pattern p is a(b)", 6),
+        (b"coding c pattern p is a{3..0}", 6),
+        (b"coding c pattern p is a=1{3..0}", 8),
+        (b"coding c pattern p is a=b{3:0}", 10),
+        (b"coding c pattern p is a=b{..0}", 9),
+        (b"coding c pattern p is a=b{3..0", 12),
+    ];
+    expect_syntax(&rt, rt.alloc(), &rows);
+}
+
+#[test]
+fn bad_bytes(rt: HostRuntime) {
+    let rows: [(&[u8], usize); 6] = [
+        (b"\x00coding c", 0),
+        (b"coding c#", 8),
+        (b"coding c\"", 8),
+        (b"coding c /* fields", 9),
+        (b"coding c pattern p is a=1 + b", 26),
+        (b"((((%", 4),
+    ];
+    for (text, at) in rows {
+        expect_fault(&rt, rt.alloc(), text, ReadTextFault::BadByte { at });
+    }
+}
+
+fn put_times(out: &mut Vec<u8>, text: &[u8], times: usize) -> Result<(), AllocError> {
+    for _ in 0..times {
+        out.extend_from_slice(text)?;
+    }
+    Ok(())
+}
+
+/// A pattern with so many open brackets, and so many closed ones.
+fn nested(alloc: Global, inner: &[u8], open: usize, closed: usize) -> Result<Vec<u8>, AllocError> {
+    let mut text = Vec::from_slice(alloc, b"coding c pattern p is")?;
+    put_times(&mut text, b"(", open)?;
+    text.extend_from_slice(inner)?;
+    put_times(&mut text, b")", closed)?;
+    Ok(text)
+}
+
+#[test]
+fn brackets(rt: HostRuntime) -> Result<(), AllocError> {
+    let text = nested(rt.alloc(), b"a", 200, 200)?;
+    expect_items(&rt, rt.alloc(), &[(text.as_slice(), 1)]);
+    let rows: [(&[u8], usize, usize, ReadTextFault); 6] = [
+        (b"a", 201, 201, ReadTextFault::TooDeep { token: 205 }),
+        (b"a", 250, 0, ReadTextFault::TooDeep { token: 205 }),
+        (
+            b"b=a{1..0}",
+            200,
+            200,
+            ReadTextFault::TooDeep { token: 208 },
+        ),
+        (b"a", 200, 199, ReadTextFault::Syntax { token: 405 }),
+        (b"a=(", 200, 200, ReadTextFault::Syntax { token: 207 }),
+        (b"a a(", 200, 200, ReadTextFault::Syntax { token: 206 }),
+    ];
+    for (inner, open, closed, fault) in rows {
+        let text = nested(rt.alloc(), inner, open, closed)?;
+        expect_fault(&rt, rt.alloc(), text.as_slice(), fault);
+    }
+    Ok(())
+}
+
+#[test]
+fn reserved_words_are_no_names(rt: HostRuntime) -> Result<(), AllocError> {
+    let words: [&[u8]; 7] = [
+        b"coding",
+        b"fields",
+        b"pattern",
+        b"is",
+        b"constructor",
+        b"rel",
+        b"abs",
+    ];
+    for word in words {
+        let mut text = Vec::from_slice(rt.alloc(), b"coding c pattern p is a=")?;
+        text.extend_from_slice(word)?;
+        let fault = ReadTextFault::Syntax { token: 7 };
+        expect_fault(&rt, rt.alloc(), text.as_slice(), fault);
+    }
+    Ok(())
+}
+
+#[test]
+fn numbers(rt: HostRuntime) {
+    let long = [b'7'; 400];
+    let rows: [(&[u8], u128); 6] = [
+        (b"0", 0),
+        (b"0x0fA9", 4009),
+        (b"18446744073709551615", 18446744073709551615),
+        (b"0x10000000000000000", 18446744073709551616),
+        (b"18446744073709551617", 18446744073709551616),
+        (&long, 18446744073709551616),
+    ];
+    for (digits, value) in rows {
+        let mut text = Vec::from_slice(rt.alloc(), b"coding c fields t ").expect(&rt, "memory");
+        text.extend_from_slice(digits).expect(&rt, "memory");
+        text.extend_from_slice(b"(a 0:0)").expect(&rt, "memory");
+        let raw = read_sled(rt.alloc(), text.as_slice()).expect(&rt, "a tree");
+        let [
+            Item::Fields {
+                token: 2,
+                name: _,
+                bits,
+                fields: _,
+            },
+        ] = raw.items.as_slice()
+        else {
+            panic!(&rt; "another item");
+        };
+        assert!(rt; is_number(bits, 4, value), "of {digits:?}");
+    }
+}
+
+fn alternatives<'a>(rt: &impl Abort, pattern: &'a Pattern) -> &'a [Pattern] {
+    let Pattern::Alternatives { parts } = pattern else {
+        panic!(rt; "no alternatives");
+    };
+    parts.as_slice()
+}
+
+fn sequence<'a>(rt: &impl Abort, pattern: &'a Pattern) -> &'a [Pattern] {
+    let Pattern::Sequence { parts } = pattern else {
+        panic!(rt; "no sequence");
+    };
+    parts.as_slice()
+}
+
+fn conjunction<'a>(rt: &impl Abort, pattern: &'a Pattern) -> &'a [Pattern] {
+    let Pattern::Conjunction { parts } = pattern else {
+        panic!(rt; "no conjunction");
+    };
+    parts.as_slice()
+}
+
+#[test]
+fn the_tree_of_fields(rt: HostRuntime) {
+    let text = b"coding c fields t 0x20 (op 31 : 26, a 7 : 0)";
+    let raw = read_sled(rt.alloc(), text).expect(&rt, "a tree");
+    assert!(rt; is_ident(&raw.name, 1, b"c"));
+    let [
+        Item::Fields {
+            token: 2,
+            name,
+            bits,
+            fields,
+        },
+    ] = raw.items.as_slice()
+    else {
+        panic!(&rt; "another item");
+    };
+    assert!(rt; is_ident(name, 3, b"t") && is_number(bits, 4, 32));
+    let [first, second] = fields.as_slice() else {
+        panic!(&rt; "other fields");
+    };
+    assert!(rt; is_ident(&first.name, 6, b"op"));
+    assert!(rt; is_number(&first.high, 7, 31) && is_number(&first.low, 9, 26));
+    assert!(rt; is_ident(&second.name, 11, b"a"));
+    assert!(rt; is_number(&second.high, 12, 7) && is_number(&second.low, 14, 0));
+}
+
+#[test]
+fn the_tree_of_a_pattern(rt: HostRuntime) {
+    let text = b"coding c pattern p is a = 1 & q ; (b = d) | r";
+    let raw = read_sled(rt.alloc(), text).expect(&rt, "a tree");
+    let [
+        Item::Pattern {
+            token: 2,
+            name,
+            body,
+        },
+    ] = raw.items.as_slice()
+    else {
+        panic!(&rt; "another item");
+    };
+    assert!(rt; is_ident(name, 3, b"p"));
+    let [first, second] = alternatives(&rt, body) else {
+        panic!(&rt; "other alternatives");
+    };
+    let [front, back] = sequence(&rt, first) else {
+        panic!(&rt; "another sequence");
+    };
+    let [
+        Pattern::Equal {
+            field,
+            value: Value::Number { value },
+        },
+        Pattern::Name { name },
+    ] = conjunction(&rt, front)
+    else {
+        panic!(&rt; "another conjunction");
+    };
+    assert!(rt; is_ident(field, 5, b"a") && is_number(value, 7, 1) && is_ident(name, 9, b"q"));
+    let [Pattern::Group { token: 11, inner }] = conjunction(&rt, back) else {
+        panic!(&rt; "no group");
+    };
+    let [inner] = alternatives(&rt, inner.get()) else {
+        panic!(&rt; "other alternatives");
+    };
+    let [inner] = sequence(&rt, inner) else {
+        panic!(&rt; "another sequence");
+    };
+    let [
+        Pattern::Equal {
+            field,
+            value: Value::Operand { name },
+        },
+    ] = conjunction(&rt, inner)
+    else {
+        panic!(&rt; "another conjunction");
+    };
+    assert!(rt; is_ident(field, 12, b"b") && is_ident(name, 14, b"d"));
+    let [only] = sequence(&rt, second) else {
+        panic!(&rt; "another sequence");
+    };
+    let [Pattern::Name { name }] = conjunction(&rt, only) else {
+        panic!(&rt; "another conjunction");
+    };
+    assert!(rt; is_ident(name, 17, b"r"));
+}
+
+#[test]
+fn the_tree_of_a_constructor(rt: HostRuntime) {
+    let text = b"coding c constructor f (a, b : rel 16, k : abs 26) is x = b {15 .. 2}";
+    let raw = read_sled(rt.alloc(), text).expect(&rt, "a tree");
+    let [
+        Item::Constructor {
+            token: 2,
+            name,
+            params,
+            body,
+        },
+    ] = raw.items.as_slice()
+    else {
+        panic!(&rt; "another item");
+    };
+    assert!(rt; is_ident(name, 3, b"f"));
+    let [
+        Param {
+            name: first,
+            reach: None,
+        },
+        Param {
+            name: second,
+            reach: Some(
+                Reach::Relative {
+                    token: 9,
+                    bits: relative,
+                },
+            ),
+        },
+        Param {
+            name: third,
+            reach: Some(
+                Reach::Absolute {
+                    token: 14,
+                    bits: absolute,
+                },
+            ),
+        },
+    ] = params.as_slice()
+    else {
+        panic!(&rt; "other parameters");
+    };
+    assert!(rt; is_ident(first, 5, b"a") && is_ident(second, 7, b"b") && is_ident(third, 12, b"k"));
+    assert!(rt; is_number(relative, 10, 16) && is_number(absolute, 15, 26));
+    let [only] = alternatives(&rt, body) else {
+        panic!(&rt; "other alternatives");
+    };
+    let [only] = sequence(&rt, only) else {
+        panic!(&rt; "another sequence");
+    };
+    let [
+        Pattern::Equal {
+            field,
+            value: Value::Bits { name, high, low },
+        },
+    ] = conjunction(&rt, only)
+    else {
+        panic!(&rt; "another conjunction");
+    };
+    assert!(rt; is_ident(field, 18, b"x") && is_ident(name, 20, b"b"));
+    assert!(rt; is_number(high, 22, 15) && is_number(low, 24, 2));
+}
+
+#[test]
+fn the_tree_of_const_of_tin32(rt: HostRuntime) {
+    let raw = read_sled(rt.alloc(), TIN32).expect(&rt, "a tree");
+    let [
+        _,
+        _,
+        Item::Constructor {
+            token: 30,
+            name,
+            params,
+            body,
+        },
+        _,
+        _,
+    ] = raw.items.as_slice()
+    else {
+        panic!(&rt; "another item");
+    };
+    assert!(rt; is_ident(name, 31, b"const"));
+    assert_eq!(rt; params.len(), 2);
+    let [only] = alternatives(&rt, body) else {
+        panic!(&rt; "other alternatives");
+    };
+    let [front, back] = sequence(&rt, only) else {
+        panic!(&rt; "another sequence");
+    };
+    assert_eq!(rt; conjunction(&rt, front).len(), 3);
+    let [
+        Pattern::Equal {
+            field,
+            value: Value::Operand { name },
+        },
+    ] = conjunction(&rt, back)
+    else {
+        panic!(&rt; "another conjunction");
+    };
+    assert!(rt; is_ident(field, 50, b"i") && is_ident(name, 52, b"k"));
+}
+
+/// Each text is printed so, and what is printed is read and printed as the same bytes.
+#[test]
+fn prints_and_reads_again(rt: HostRuntime) -> Result<(), AllocError> {
+    let rows: [(&[u8], &[u8]); 6] = [
+        (b"coding c", b"coding c "),
+        (
+            b"coding c fields t 0x20(op 31:26,a 0x7 : 0)",
+            b"coding c fields t 32 ( op 31 : 26 , a 7 : 0 ) ",
+        ),
+        (
+            b"coding c pattern p is a=1&q;(b=k{15..2})|r",
+            b"coding c pattern p is a = 1 & q ; ( b = k { 15 .. 2 } ) | r ",
+        ),
+        (
+            b"coding c constructor f()is((x)|y)",
+            b"coding c constructor f ( ) is ( ( x ) | y ) ",
+        ),
+        (
+            b"coding c constructor f(a,b:rel 16,k:abs 26)is x=a // k",
+            b"coding c constructor f ( a , b : rel 16 , k : abs 26 ) is x = a ",
+        ),
+        (
+            b"coding c fields t 99999999999999999999(a 0:0)",
+            b"coding c fields t 18446744073709551616 ( a 0 : 0 ) ",
+        ),
+    ];
+    for (text, printed) in rows {
+        let raw = read_sled(rt.alloc(), text).expect(&rt, "a tree");
+        let out = write_sled(rt.alloc(), &raw)?;
+        assert!(rt; out.as_slice() == printed, "of {text:?}");
+        let again = read_sled(rt.alloc(), out.as_slice()).expect(&rt, "a tree");
+        assert!(rt;
+            write_sled(rt.alloc(), &again)?.as_slice() == printed,
+            "of {text:?}"
+        );
+    }
+    Ok(())
+}
