@@ -11,10 +11,10 @@ use Rattle.qc_descr.specs.Step.{OneInstance, Progress, RunsTo, observation_of}
 use Rattle.qc_core.specs.declared.constants.ConstantProgram.{ConstantProgram}
 use Rattle.qc_core.specs.Agreement.{Agrees, AgreesOn}
 use Rattle.qc_core.specs.Code.{image_of}
-use Rattle.qc_descr.specs.Encoding.{DecodesInto, instance_bytes}
+use Rattle.qc_descr.specs.Encoding.{DecodesInto, code_bytes, instance_bytes}
 use Rattle.qc_core.specs.ConstantProgram.{IsConstantProgram, Output, Return, program_shows, program_state, statements_of, weight_of}
 use Rattle.qc_core.specs.Tin32.{tin32}
-use Rattle.qc_core.proofs.Codes.{Code, code_for, code_decodes, code_has_words, code_length, counts_are, instructs_are, instructs_of, HasWords}
+use Rattle.qc_core.proofs.Codes.{Code, code_for, code_decodes, code_has_words, code_length, code_placed, counts_are, instructs_are, instructs_of, HasWords}
 use Rattle.qc_core.proofs.Run.{IsRunning, can_run, run_is_at, seen_at}
 use Rattle.qc_core.proofs.Stages.{Stage, Running, next_stage, stage_shows, stage_finishes, steps_of, steps_below, steps_end, program_finishes, program_state_is, code_shows_program, shown_by}
 
@@ -35,6 +35,10 @@ last_shown p = shown_by (statements_of p) []
 has_words : (p : ConstantProgram) → IsConstantProgram p → HasWords (code_of p)
 has_words p h = code_has_words p.outputs p.returned h.outputs h.returned
 
+-- the code of the image
+code_is : (p : ConstantProgram) → (image_of tin32 p).code ≡ flat_map (instance_bytes tin32 0) (instructs_of (code_of p))
+code_is p = ap (code_bytes tin32 0) (sym (instructs_are p.outputs p.returned)) ∙ code_placed (code_of p) 0
+
 -- the memory begins with the code
 code_first : (d : Description) (image : Image) → (more : List ℕ) × (loaded_memory d image ≡ image.code ++ more)
 code_first d image = (_, refl)
@@ -50,7 +54,7 @@ begins p input h =
       others = replicate 15 0;
       cells = ap (λ counts. map (λ count. replicate count 0) counts) counts_are;
       more = memory.0;
-      code = memory.1 ∙ ap (λ is. flat_map (instance_bytes tin32) is ++ memory.0) (sym (instructs_are p.outputs p.returned));
+      code = memory.1 ∙ ap (λ bytes. bytes ++ memory.0) (code_is p);
       room = omega (arith, code_length p.outputs p.returned, h.few);
       output = refl;
     }
@@ -93,10 +97,9 @@ agrees_on one p input h = record {
 }
 
 -- the image's code decodes into the program's instructions
-decodes : (p : ConstantProgram) → IsConstantProgram p → DecodesInto tin32 (image_of tin32 p).code (instructs_of (code_of p))
+decodes : (p : ConstantProgram) → IsConstantProgram p → DecodesInto tin32 0 (image_of tin32 p).code (instructs_of (code_of p))
 decodes p h =
-    subst (λ is. DecodesInto tin32 (flat_map (instance_bytes tin32) is) (instructs_of (code_of p))) (instructs_are p.outputs p.returned)
-    (code_decodes (code_of p) (has_words p h))
+    subst (λ code. DecodesInto tin32 0 code (instructs_of (code_of p))) (sym (code_is p)) (code_decodes (code_of p) 0 (has_words p h))
 
 -- two instructions for each statement
 twice_statements : (p : ConstantProgram) → length (instructs_of (code_of p)) ≡ 2 * length (statements_of p)

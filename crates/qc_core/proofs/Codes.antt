@@ -1,13 +1,23 @@
 -- The code that a program of constants becomes on tin32, as a list of instructions that ends with the halt.
-use Rattle.std.proofs.Common.{◌≡◌, ◌<◌, ◌^◌, ℕ, ◌+◌, List, [], ◌∷◌, ◌++◌, length, All, None, Some, refl, ap, lit<, arith, ◌∙◌, drop, append_assoc, ◌*◌}
+use Rattle.std.proofs.Common.{◌≡◌, ◌<◌, ◌^◌, ℕ, zero, suc, true, subst, ap₂, inl, inr, ◌+◌, List, [], ◌∷◌, ◌++◌, length, All, None, Some, refl, ap, lit<, arith, ◌∙◌, drop, append_assoc, ◌*◌}
 use Rattle.std.proofs.lemmas.List.Elements.{All-head, All-tail}
-use Rattle.std.specs.Prelude.{slice_get}
-use Rattle.std.specs.List.{flat_map}
+use Rattle.std.specs.Prelude.{slice_get, codes}
+use Rattle.std.specs.List.{flat_map, list_any}
+use Rattle.std.proofs.lemmas.Bool.{both_ways, cases_lt}
+use Rattle.std.proofs.lemmas.Nat.Bits.{bit_at-zero, bit_at_above}
+use Rattle.std.proofs.lemmas.Option.{same_Some}
 use Rattle.qc_descr.specs.Step.{EncodesAt}
 use Rattle.qc_descr.specs.declared.description.Instruction.{Instruction}
 use Rattle.qc_descr.specs.Description.{counts_of}
-use Rattle.qc_descr.specs.Encoding.{Encodes, InstanceOf, DecodesInto, instance_bytes}
-use Rattle.qc_core.specs.Code.{load_constant, put_cell, halt_with_cell}
+use Rattle.qc_descr.specs.Encoding.{AreCodable, Encodes, InstanceOf, IsCodable, DecodesInto, code_bytes, instance_bytes}
+use Rattle.qc_descr.specs.Coding.{is_piece}
+use Rattle.qc_descr.specs.Valid.{all_below}
+use Rattle.qc_descr.specs.Law.Bits.{below_of_all}
+use Rattle.qc_descr.specs.declared.coding.Bit.{Bit}
+use Rattle.qc_descr.specs.declared.coding.Reach.TheVariants.{Plain}
+use Rattle.qc_terms.specs.declared.term.Dest.{Dest}
+use Rattle.qc_terms.specs.declared.term.Dest.TheVariants as dest
+use Rattle.qc_core.specs.Code.{load_constant, put_cell, halt_with_cell, output_of, return_of}
 use Rattle.qc_core.specs.Tin32.{tin32, tin32_instructions, tin32_spaces, const_instruction, out_instruction, halt_instruction, register_instruction, first_token, empty_token, immediate_token, each_below}
 
 -- the instructions that are left: const of a word, op_out, and op_halt
@@ -63,27 +73,85 @@ first_is (Load word rest) = refl
 first_is (Put rest) = refl
 first_is Halt = refl
 
--- its bytes are the instance's, and there are 8
-pub first_encodes : (c : Code) → HasWords c → Encodes tin32 (first_of c).number (first_of c).operands (instance_bytes tin32 (first_of c))
-unfolding tin32 tin32_instructions tin32_spaces const_instruction out_instruction halt_instruction register_instruction
-first_encodes (Load word rest) w = record { instruction = const_instruction; is = refl; coded = record { in_range = (lit< tt, (w.0, tt)); bytes_are = refl } }
-first_encodes (Put rest) w = record { instruction = out_instruction; is = refl; coded = record { in_range = (lit< tt, tt); bytes_are = refl } }
-first_encodes Halt w = record { instruction = halt_instruction; is = refl; coded = record { in_range = (lit< tt, tt); bytes_are = refl } }
+-- an operand that is 0 can be coded as it is
+zero_codable : (bits : List Bit) (at number : ℕ) → IsCodable bits Plain at number 0
+zero_codable bits at number = record { reached = tt; kept = λ bit none. bit_at-zero bit }
 
-pub first_length : (c : Code) → length (instance_bytes tin32 (first_of c)) ≡ 8
+-- each bit of a constant has its place
+placed : all_below 32 (λ bit. list_any (is_piece 1 bit) (first_token 2 ++ immediate_token)) ≡ true
+unfolding all_below first_token immediate_token each_below
+placed = refl
+
+word_codable : (at word : ℕ) → word < 2 ^ 32 → IsCodable (first_token 2 ++ immediate_token) Plain at 1 word
+word_codable at word small = record {
+  reached = tt;
+  kept = λ bit none. elim (cases_lt bit 32) [
+    | inl less ↦ absurd (both_ways _ none (below_of_all 32 _ bit placed less))
+    | inr more ↦ bit_at_above word 32 bit small more
+  ];
+}
+
+load_codable : (at word : ℕ) → word < 2 ^ 32 → AreCodable const_instruction.coding at (0 ∷ word ∷ [])
+unfolding const_instruction
+load_codable at word small zero reach is =
+    subst (λ r. IsCodable (first_token 2 ++ immediate_token) r at 0 0) (same_Some _ _ is) (zero_codable _ at 0)
+load_codable at word small (suc zero) reach is =
+    subst (λ r. IsCodable (first_token 2 ++ immediate_token) r at 1 word) (same_Some _ _ is) (word_codable at word small)
+load_codable at word small (suc (suc n)) reach is = cc
+
+register_codable : (name : List ℕ) (to : Dest) (opcode at : ℕ) → AreCodable (register_instruction name to opcode).coding at (0 ∷ [])
+unfolding register_instruction
+register_codable name to opcode at zero reach is =
+    subst (λ r. IsCodable (first_token opcode ++ empty_token) r at 0 0) (same_Some _ _ is) (zero_codable _ at 0)
+register_codable name to opcode at (suc n) reach is = cc
+
+-- Its bytes are the instance's at any address, and there are 8.
+pub first_encodes : (c : Code) (at : ℕ) → HasWords c → Encodes tin32 at (first_of c).number (first_of c).operands (instance_bytes tin32 0 (first_of c))
+unfolding tin32 tin32_instructions tin32_spaces const_instruction out_instruction halt_instruction register_instruction
+first_encodes (Load word rest) at w = record {
+  instruction = const_instruction;
+  is = refl;
+  coded = record { in_range = (lit< tt, (w.0, tt)); codable = load_codable at word w.0; bytes_are = refl };
+}
+first_encodes (Put rest) at w = record {
+  instruction = out_instruction;
+  is = refl;
+  coded = record { in_range = (lit< tt, tt); codable = register_codable (codes "op_out") dest.Out 38 at; bytes_are = refl };
+}
+first_encodes Halt at w = record {
+  instruction = halt_instruction;
+  is = refl;
+  coded = record { in_range = (lit< tt, tt); codable = register_codable (codes "op_halt") dest.Halt 39 at; bytes_are = refl };
+}
+
+pub first_placed : (c : Code) (at : ℕ) → instance_bytes tin32 at (first_of c) ≡ instance_bytes tin32 0 (first_of c)
+unfolding tin32 tin32_instructions const_instruction out_instruction halt_instruction register_instruction
+first_placed (Load word rest) at = refl
+first_placed (Put rest) at = refl
+first_placed Halt at = refl
+
+pub first_length : (c : Code) → length (instance_bytes tin32 0 (first_of c)) ≡ 8
 unfolding tin32 tin32_instructions const_instruction out_instruction halt_instruction register_instruction first_token empty_token immediate_token each_below
 first_length (Load word rest) = refl
 first_length (Put rest) = refl
 first_length Halt = refl
 
+-- so are those of the whole code
+pub code_placed : (c : Code) (at : ℕ) → code_bytes tin32 at (instructs_of c) ≡ flat_map (instance_bytes tin32 0) (instructs_of c)
+code_placed (Load word rest) at =
+    ap₂ (λ xs ys. xs ++ ys) (first_placed (Load word rest) at) (code_placed rest (at + length (instance_bytes tin32 at (load_constant word))))
+code_placed (Put rest) at =
+    ap₂ (λ xs ys. xs ++ ys) (first_placed (Put rest) at) (code_placed rest (at + length (instance_bytes tin32 at put_cell)))
+code_placed Halt at = ap (λ xs. xs ++ []) (first_placed Halt at)
+
 -- the code decodes into its instructions
-pub code_decodes : (c : Code) → HasWords c → DecodesInto tin32 (flat_map (instance_bytes tin32) (instructs_of c)) (instructs_of c)
-code_decodes (Load word rest) w = (_, _, first_encodes (Load word rest) w, refl, code_decodes rest w.1)
-code_decodes (Put rest) w = (_, _, first_encodes (Put rest) w, refl, code_decodes rest w)
-code_decodes Halt w = (_, _, first_encodes Halt w, refl, refl)
+pub code_decodes : (c : Code) (at : ℕ) → HasWords c → DecodesInto tin32 at (flat_map (instance_bytes tin32 0) (instructs_of c)) (instructs_of c)
+code_decodes (Load word rest) at w = (_, _, first_encodes (Load word rest) at w, refl, code_decodes rest _ w.1)
+code_decodes (Put rest) at w = (_, _, first_encodes (Put rest) at w, refl, code_decodes rest _ w)
+code_decodes Halt at w = (_, _, first_encodes Halt at w, refl, refl)
 
 -- that code has the program's instructions
-pub instructs_are : (words : List ℕ) (returned : ℕ) → instructs_of (code_for words returned) ≡ flat_map (λ word. load_constant word ∷ put_cell ∷ []) words ++ load_constant returned ∷ halt_with_cell ∷ []
+pub instructs_are : (words : List ℕ) (returned : ℕ) → instructs_of (code_for words returned) ≡ flat_map output_of words ++ return_of returned
 instructs_are [] returned = refl
 instructs_are (word ∷ words) returned = ap (λ is. load_constant word ∷ put_cell ∷ is) (instructs_are words returned)
 
@@ -97,7 +165,7 @@ code_length [] returned = refl
 code_length (word ∷ words) returned = omega (arith, code_length words returned)
 
 -- the first instruction stands where the code does
-pub first_stands : (c : Code) (memory : List ℕ) (at : ℕ) (more : List ℕ) → HasWords c → drop at memory ≡ flat_map (instance_bytes tin32) (instructs_of c) ++ more → EncodesAt tin32 memory at (first_of c).number (first_of c).operands (instance_bytes tin32 (first_of c))
-first_stands (Load word rest) memory at more w e = record { encodes = first_encodes (Load word rest) w; more = _; prefix = e ∙ append_assoc (instance_bytes tin32 (load_constant word)) _ more }
-first_stands (Put rest) memory at more w e = record { encodes = first_encodes (Put rest) w; more = _; prefix = e ∙ append_assoc (instance_bytes tin32 put_cell) _ more }
-first_stands Halt memory at more w e = record { encodes = first_encodes Halt w; more = _; prefix = e ∙ append_assoc (instance_bytes tin32 halt_with_cell) _ more }
+pub first_stands : (c : Code) (memory : List ℕ) (at : ℕ) (more : List ℕ) → HasWords c → drop at memory ≡ flat_map (instance_bytes tin32 0) (instructs_of c) ++ more → EncodesAt tin32 memory at (first_of c).number (first_of c).operands (instance_bytes tin32 0 (first_of c))
+first_stands (Load word rest) memory at more w e = record { encodes = first_encodes (Load word rest) at w; more = _; prefix = e ∙ append_assoc (instance_bytes tin32 0 (load_constant word)) _ more }
+first_stands (Put rest) memory at more w e = record { encodes = first_encodes (Put rest) at w; more = _; prefix = e ∙ append_assoc (instance_bytes tin32 0 put_cell) _ more }
+first_stands Halt memory at more w e = record { encodes = first_encodes Halt at w; more = _; prefix = e ∙ append_assoc (instance_bytes tin32 0 halt_with_cell) _ more }

@@ -1,57 +1,91 @@
 -- The instructions that are put into the code, and their bytes.
-use Rattle.std.proofs.Common.{lit≤, ◌≤◌, ◌≡◌, ◌<◌, ◌^◌, ℕ, List, [], ◌∷◌, ◌++◌, refl, ap, ◌∙◌, append_assoc, append-nil, length, length-append, arith, ◌+◌, ◌*◌}
+use Rattle.std.proofs.Common.{lit≤, ◌≤◌, ◌≡◌, ◌<◌, ◌^◌, ℕ, List, [], ◌∷◌, ◌++◌, refl, ap, sym, subst, ◌∙◌, append_assoc, append-nil, length, length-append, arith, ◌+◌, ◌*◌, take, get_or}
 use Rattle.std.specs.List.{flat_map}
+use Rattle.std.proofs.lemmas.List.{take_more}
 use Rattle.std.proofs.lemmas.List.Concat.{flat_map-append}
 use Rattle.qc_descr.specs.declared.description.Description.{Description}
-use Rattle.qc_descr.specs.Encoding.{Encodes, instance_bytes, IsInstance}
+use Rattle.qc_descr.specs.Encoding.{Encodes, InstanceOf, code_bytes, instance_bytes}
 use Rattle.qc_core.specs.declared.constants.ConstantProgram.{ConstantProgram}
-use Rattle.qc_core.specs.Code.{image_of, load_constant, put_cell, halt_with_cell, instructions_for, output_bytes, return_bytes}
+use Rattle.qc_core.specs.Code.{image_of, load_constant, put_cell, halt_with_cell, instructions_for, output_of, return_of}
 use Rattle.qc_core.specs.ConstantProgram.{IsConstantProgram}
 use Rattle.qc_descr.specs.Loading.{FitsMachine}
 use Rattle.qc_descr.specs.Valid.{IsValid}
 use Rattle.qc_core.specs.ImageFile.{IsWritable}
 use Rattle.qc_core.specs.Tin32.{tin32}
 use Rattle.qc_terms.specs.declared.image.Image.{Image}
-use Rattle.qc_core.proofs.Codes.{Load, Put, Halt, first_encodes, first_length}
+use Rattle.qc_core.proofs.Codes.{Code, Load, Put, Halt, HasWords, code_for, code_length, code_placed, first_of, first_encodes, first_length, first_placed, instructs_are, instructs_of}
 
--- what encodes is an instance
-instance_of : (d : Description) (number : ℕ) (operands bytes : List ℕ) → Encodes d number operands bytes → IsInstance d number operands
-instance_of d number operands bytes e = record { instruction = e.instruction; is = e.is; in_range = e.coded.in_range }
+-- the instructions' bytes at an address are theirs there
+encodes_there : (c : Code) (at : ℕ) → HasWords c → Encodes tin32 at (first_of c).number (first_of c).operands (instance_bytes tin32 at (first_of c))
+encodes_there c at w =
+    subst (Encodes tin32 at (first_of c).number (first_of c).operands) (sym (first_placed c at)) (first_encodes c at w)
 
-pub load_is_instance : (word : ℕ) → word < 2 ^ 32 → IsInstance tin32 0 (0 ∷ word ∷ [])
-load_is_instance word small = instance_of tin32 0 _ _ (first_encodes (Load word Halt) (small, tt))
+pub load_encodes : (at word : ℕ) → word < 2 ^ 32 → Encodes tin32 at 0 (0 ∷ word ∷ []) (instance_bytes tin32 at (load_constant word))
+load_encodes at word small = encodes_there (Load word Halt) at (small, tt)
 
-pub put_is_instance : IsInstance tin32 1 (0 ∷ [])
-put_is_instance = instance_of tin32 1 _ _ (first_encodes (Put Halt) tt)
+pub put_encodes : (at : ℕ) → Encodes tin32 at 1 (0 ∷ []) (instance_bytes tin32 at put_cell)
+put_encodes at = encodes_there (Put Halt) at tt
 
-pub halt_is_instance : IsInstance tin32 2 (0 ∷ [])
-halt_is_instance = instance_of tin32 2 _ _ (first_encodes Halt tt)
+pub halt_encodes : (at : ℕ) → Encodes tin32 at 2 (0 ∷ []) (instance_bytes tin32 at halt_with_cell)
+halt_encodes at = encodes_there Halt at tt
 
--- the bytes of the instructions of all outputs
-outputs_bytes : (d : Description) (words : List ℕ) → flat_map (instance_bytes d) (flat_map (λ word. load_constant word ∷ put_cell ∷ []) words) ≡ flat_map (output_bytes d) words
-outputs_bytes d [] = refl
-outputs_bytes d (word ∷ words) = rw (outputs_bytes d words, append_assoc) refl
+-- the bytes of instructions after others
+pub code_bytes-append : (d : Description) (at : ℕ) (xs ys : List InstanceOf) →
+    code_bytes d at (xs ++ ys) ≡ code_bytes d at xs ++ code_bytes d (at + length (code_bytes d at xs)) ys
+code_bytes-append d at [] ys = let e : at ≡ at + 0 = omega arith in ap (λ n. code_bytes d n ys) e
+code_bytes-append d at (x ∷ xs) ys =
+    let first : List ℕ = instance_bytes d at x in
+    let next : ℕ = at + length first in
+    let rest : List ℕ = code_bytes d next xs in
+    let place : next + length rest ≡ at + length (first ++ rest) = omega (arith, length-append first rest) in
+    ap (λ bytes. first ++ bytes) (code_bytes-append d next xs ys)
+    ∙ sym (append_assoc first rest (code_bytes d (next + length rest) ys))
+    ∙ ap (λ n. (first ++ rest) ++ code_bytes d n ys) place
 
--- the bytes of a program's instructions
-pub code_bytes : (d : Description) (p : ConstantProgram) → flat_map (instance_bytes d) (instructions_for p) ≡ flat_map (output_bytes d) p.outputs ++ return_bytes d p.returned
-code_bytes d p =
-    flat_map-append (instance_bytes d) (flat_map (λ word. load_constant word ∷ put_cell ∷ []) p.outputs) (load_constant p.returned ∷ halt_with_cell ∷ [])
-    ∙ ap (λ xs. xs ++ flat_map (instance_bytes d) (load_constant p.returned ∷ halt_with_cell ∷ [])) (outputs_bytes d p.outputs)
-    ∙ ap (λ xs. flat_map (output_bytes d) p.outputs ++ (instance_bytes d (load_constant p.returned) ++ xs)) (append-nil (instance_bytes d halt_with_cell))
+-- the code of the outputs so far, and of one more
+pub outputs_more : (d : Description) (old now new words : List ℕ) (i w : ℕ) →
+    now ≡ old ++ code_bytes d (length old) (flat_map output_of (take i words)) → new ≡ now ++ code_bytes d (length now) (output_of w) →
+    i < length words → w ≡ get_or words i 0 → new ≡ old ++ code_bytes d (length old) (flat_map output_of (take (i + 1) words))
+outputs_more d old now new words i w so_far put within read =
+    let before : List InstanceOf = flat_map output_of (take i words) in
+    let bytes : List ℕ = code_bytes d (length old) before in
+    let all : flat_map output_of (take (i + 1) words) ≡ before ++ output_of w =
+    ap (flat_map output_of) (take_more words i 0 within) ∙ flat_map-append output_of (take i words) (get_or words i 0 ∷ [])
+    ∙ ap (λ is. before ++ is) (append-nil (output_of (get_or words i 0))) ∙ ap (λ v. before ++ output_of v) (sym read) in
+    let place : length now ≡ length old + length bytes = ap length so_far ∙ length-append old bytes in
+    put ∙ ap (λ n. now ++ code_bytes d n (output_of w)) place
+    ∙ ap (λ xs. xs ++ code_bytes d (length old + length bytes) (output_of w)) so_far
+    ∙ append_assoc old bytes (code_bytes d (length old + length bytes) (output_of w))
+    ∙ ap (λ xs. old ++ xs) (sym (code_bytes-append d (length old) before (output_of w)))
+    ∙ ap (λ is. old ++ code_bytes d (length old) is) (sym all)
+
+-- the code of all outputs, and of the return
+pub program_bytes : (d : Description) (p : ConstantProgram) (outputs new : List ℕ) → outputs ≡ code_bytes d 0 (flat_map output_of p.outputs) →
+    new ≡ outputs ++ code_bytes d (length outputs) (return_of p.returned) → new ≡ code_bytes d 0 (instructions_for p)
+program_bytes d p outputs new so_far put =
+    let place : length outputs ≡ 0 + length (code_bytes d 0 (flat_map output_of p.outputs)) = omega (arith, ap length so_far) in
+    put ∙ ap (λ n. outputs ++ code_bytes d n (return_of p.returned)) place
+    ∙ ap (λ xs. xs ++ code_bytes d (0 + length (code_bytes d 0 (flat_map output_of p.outputs))) (return_of p.returned)) so_far
+    ∙ sym (code_bytes-append d 0 (flat_map output_of p.outputs) (return_of p.returned))
 
 room_for_code : 16016 ≤ tin32.code_end
 unfolding tin32
 room_for_code = lit≤ tt
 
--- a statement has two instructions of 8 bytes
-outputs_length : (words : List ℕ) → length (flat_map (output_bytes tin32) words) ≡ 16 * length words
-outputs_length [] = refl
-outputs_length (word ∷ words) =
-    omega (arith, length-append (output_bytes tin32 word) (flat_map (output_bytes tin32) words), length-append (instance_bytes tin32 (load_constant word)) (instance_bytes tin32 put_cell), first_length (Load word Halt), first_length (Put Halt), outputs_length words)
+-- an instruction has 8 bytes
+code_length_is : (c : Code) → length (flat_map (instance_bytes tin32 0) (instructs_of c)) ≡ 8 * length (instructs_of c)
+code_length_is (Load word rest) =
+    omega (arith, length-append (instance_bytes tin32 0 (load_constant word)) (flat_map (instance_bytes tin32 0) (instructs_of rest)), first_length (Load word rest), code_length_is rest)
+code_length_is (Put rest) =
+    omega (arith, length-append (instance_bytes tin32 0 put_cell) (flat_map (instance_bytes tin32 0) (instructs_of rest)), first_length (Put rest), code_length_is rest)
+code_length_is Halt = omega (arith, length-append (instance_bytes tin32 0 halt_with_cell) [], first_length Halt)
 
-pub code_size : (p : ConstantProgram) → length (flat_map (instance_bytes tin32) (instructions_for p)) ≡ 16 * (length p.outputs + 1)
+-- and a statement has two of them
+pub code_size : (p : ConstantProgram) → length (code_bytes tin32 0 (instructions_for p)) ≡ 16 * (length p.outputs + 1)
 code_size p =
-    ap length (code_bytes tin32 p) ∙ omega (arith, length-append (flat_map (output_bytes tin32) p.outputs) (return_bytes tin32 p.returned), length-append (instance_bytes tin32 (load_constant p.returned)) (instance_bytes tin32 halt_with_cell), outputs_length p.outputs, first_length (Load p.returned Halt), first_length Halt)
+    let code : Code = code_for p.outputs p.returned in
+    ap (λ is. length (code_bytes tin32 0 is)) (sym (instructs_are p.outputs p.returned)) ∙ ap length (code_placed code 0)
+    ∙ code_length_is code ∙ omega (arith, code_length p.outputs p.returned)
 
 -- the image fits the machine
 pub image_fits : (p : ConstantProgram) → IsConstantProgram p → FitsMachine tin32 (image_of tin32 p)

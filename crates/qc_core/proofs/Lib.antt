@@ -1,9 +1,7 @@
 pub mod Agreement
 pub mod Codes
-pub mod DecodedOperands
 pub mod Decodings
 pub mod Emitted
-pub mod EncodedBytes
 pub mod Endings
 pub mod Exclusions
 pub mod Fronts
@@ -12,7 +10,6 @@ pub mod Instances
 pub mod Loaded
 pub mod MemoryFiles
 pub mod Numerals
-pub mod Places
 pub mod ProgramTexts
 pub mod SameBytes
 pub mod Ready

@@ -15,7 +15,7 @@ use Rattle.qc_core.proofs.Tin32Valid.{tin32_valid}
 pub record IsReady (c : Code) (s : State) : Type 0 where
   pub facts : s.facts ≡ tin32.facts
   pub ending : s.ending ≡ None
-  pub stands : EncodesAt tin32 s.memory s.pc (first_of c).number (first_of c).operands (instance_bytes tin32 (first_of c))
+  pub stands : EncodesAt tin32 s.memory s.pc (first_of c).number (first_of c).operands (instance_bytes tin32 0 (first_of c))
   pub room : s.pc + 8 < 2 ^ 32
 
 -- what that instruction does
@@ -23,14 +23,14 @@ abbrev pub first_outcome : Code → State → Outcome
 first_outcome c s = outcome_of (instruction_of_first c).rtl (first_of c).operands (s.pc + 8) s
 
 -- the address after it doesn't wrap
-after_is : (c : Code) (s : State) → IsReady c s → address_after s (instance_bytes tin32 (first_of c)) ≡ s.pc + 8
+after_is : (c : Code) (s : State) → IsReady c s → address_after s (instance_bytes tin32 0 (first_of c)) ≡ s.pc + 8
 after_is c s r =
     rw (r.facts, word_is, first_length c) (mod-eq_of_lt r.room)
 
 -- whatever instance encodes to the bytes there does what that instruction does
 same_outcome : OneInstance → (c : Code) (s : State) → IsReady c s → (o : Outcome) → StepsBy tin32 s o → o ≡ first_outcome c s
 same_outcome one c s r o by =
-    let same = one tin32 s.memory s.pc by.number (first_of c).number by.operands (first_of c).operands by.bytes (instance_bytes tin32 (first_of c)) tin32_valid by.stands r.stands in
+    let same = one tin32 s.memory s.pc by.number (first_of c).number by.operands (first_of c).operands by.bytes (instance_bytes tin32 0 (first_of c)) tin32_valid by.stands r.stands in
     let instruction : by.stands.encodes.instruction ≡ instruction_of_first c = cc (first_is c, by.stands.encodes.is, same.0) in
     let after : address_after s by.bytes ≡ s.pc + 8 = ap (address_after s) same.2 ∙ after_is c s r in
     by.is ∙ cc (instruction, same.1, after)
@@ -42,7 +42,7 @@ ready_steps c s r =
     subst (λ e. StepsFrom e tin32 s (first_outcome c s)) (sym r.ending) (inl (record {
       number = (first_of c).number;
       operands = (first_of c).operands;
-      bytes = instance_bytes tin32 (first_of c);
+      bytes = instance_bytes tin32 0 (first_of c);
       stands = r.stands;
       is = cc (instruction, after_is c s r);
     }))

@@ -21,7 +21,7 @@ pub record IsRunning (left : Code) (cell : ℕ) (shown : List ℕ) (p : Progress
   pub others : List ℕ
   pub cells : p.state.cells ≡ (cell ∷ others) ∷ []
   pub more : List ℕ
-  pub code : drop p.state.pc p.state.memory ≡ flat_map (instance_bytes tin32) (instructs_of left) ++ more
+  pub code : drop p.state.pc p.state.memory ≡ flat_map (instance_bytes tin32 0) (instructs_of left) ++ more
   pub room : p.state.pc + 8 * length (instructs_of left) ≤ 16016
   pub output : p.output ≡ shown
 
@@ -40,12 +40,12 @@ past_eight : (bytes more : List ℕ) → length bytes ≡ 8 → drop 8 (bytes ++
 past_eight bytes more e = subst (λ n. drop n (bytes ++ more) ≡ more) e (drop-append_seam bytes more)
 
 -- what is left of the code after its first instruction
-next_code : (c rest : Code) (at : ℕ) (memory more : List ℕ) → instructs_of c ≡ first_of c ∷ instructs_of rest → drop at memory ≡ flat_map (instance_bytes tin32) (instructs_of c) ++ more → drop (at + 8) memory ≡ flat_map (instance_bytes tin32) (instructs_of rest) ++ more
+next_code : (c rest : Code) (at : ℕ) (memory more : List ℕ) → instructs_of c ≡ first_of c ∷ instructs_of rest → drop at memory ≡ flat_map (instance_bytes tin32 0) (instructs_of c) ++ more → drop (at + 8) memory ≡ flat_map (instance_bytes tin32 0) (instructs_of rest) ++ more
 next_code c rest at memory more is e =
-    let bytes = instance_bytes tin32 (first_of c) in
-    let left = flat_map (instance_bytes tin32) (instructs_of rest) in
+    let bytes = instance_bytes tin32 0 (first_of c) in
+    let left = flat_map (instance_bytes tin32 0) (instructs_of rest) in
     let split : drop at memory ≡ bytes ++ (left ++ more) =
-    e ∙ ap (λ is. flat_map (instance_bytes tin32) is ++ more) is ∙ append_assoc bytes left more in
+    e ∙ ap (λ is. flat_map (instance_bytes tin32 0) is ++ more) is ∙ append_assoc bytes left more in
     sym (drop-drop 8 at memory) ∙ ap (drop 8) split ∙ past_eight bytes (left ++ more) (first_length c)
 
 -- a machine that runs is ready for its next instruction

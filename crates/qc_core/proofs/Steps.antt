@@ -1,5 +1,6 @@
 -- The steps of a machine.
-use Rattle.std.proofs.Common.{◌≡◌, ℕ, ◌+◌, ◌%◌, ◌^◌, ◌≤◌, Bool, ◌&&◌, List, [], ◌∷◌, length, take, drop, get_or, Option, Some, None, All, IfSome, refl, sym, ◌∙◌, ap, subst, arith, inl, inr}
+use Rattle.std.proofs.Common.{◌≡◌, ℕ, ◌+◌, ◌%◌, ◌^◌, ◌<◌, ◌≤◌, Bool, ◌&&◌, List, [], ◌∷◌, length, take, drop, get_or, Option, Some, None, All, IfSome, refl, sym, ◌∙◌, ap, subst, arith, inl, inr}
+use Rattle.std.specs.Prelude.{slice_index}
 use Rattle.std.specs.List.{slice_get}
 use Rattle.std.proofs.lemmas.Bool.{cases_Bool}
 use Rattle.std.proofs.lemmas.Option.{get_or_from_slice_get, same_Some, slice_get_within}
@@ -23,9 +24,10 @@ use Rattle.qc_descr.specs.declared.description.OperandKind.{OperandKind}
 use Rattle.qc_descr.specs.declared.description.OperandKind.TheVariants as kind
 use Rattle.qc_descr.specs.Description.{AreInRange, context_of_description, kinds_of}
 use Rattle.qc_descr.specs.Step.{EncodesAt, IsUndecodable, Steps, StepsBy, StepsFrom, address_after}
-use Rattle.qc_descr.specs.Valid.{EffectNames, IsValid, IsValidInstruction, NamesDest, NamesOperands, NamesPlace}
+use Rattle.qc_descr.specs.Valid.{EffectNames, IsValid, NamesDest, NamesOperands, NamesPlace}
 use Rattle.qc_descr.specs.Machine.{IsMachineOf}
-use Rattle.qc_core.proofs.DecodedOperands.{in_range_at, length-in_range}
+use Rattle.qc_descr.specs.Law.CodedBytes.{valid_at}
+use Rattle.qc_descr.specs.Law.Operands.{in_range_at, length-in_range}
 
 -- the facts of a machine stay
 facts_after_write : (w : Write) (s : State) → (after_write w s).facts ≡ s.facts
@@ -83,27 +85,31 @@ place_fits d kinds xs (place.Operand space number) range names = (
   in_range_at d kinds xs number (kind.Register space) range names,
 )
 
-operands_fit : (d : Description) (kinds : List OperandKind) (xs : List ℕ) (t : Tree) → AreInRange d kinds xs → NamesOperands kinds t →
+operands_fit : (d : Description) (kinds : List OperandKind) (xs : List ℕ) (t : Tree) → AreInRange d kinds xs → NamesOperands d.facts.word kinds t →
     OperandsFit (context_of_description d) xs t
 operands_fit d kinds xs (Number value width) range names = tt
 operands_fit d kinds xs (Unary op arg) range names = operands_fit d kinds xs arg range names
 operands_fit d kinds xs (Binary op left right) range names =
     (operands_fit d kinds xs left range names.0, operands_fit d kinds xs right range names.1)
 operands_fit d kinds xs (Register p width) range names = place_fits d kinds xs p range names
-operands_fit d kinds xs (Immediate operand width) range names = (
+operands_fit d kinds xs (Immediate operand width) range (inl names) = (
   omega (arith, slice_get_within kinds operand (kind.Imm width) names, length-in_range d kinds xs range),
   in_range_at d kinds xs operand (kind.Imm width) range names,
+)
+operands_fit d kinds xs (Immediate operand width) range (inr (names, is)) = (
+  omega (arith, slice_get_within kinds operand kind.Address names, length-in_range d kinds xs range),
+  subst (λ n. slice_index xs operand < 2 ^ n) (sym is) (in_range_at d kinds xs operand kind.Address range names),
 )
 operands_fit d kinds xs (Load width address) range names = operands_fit d kinds xs address range names
 operands_fit d kinds xs (NextInput width) range names = tt
 operands_fit d kinds xs (AddressAfter width) range names = tt
 
 guard_fits : (d : Description) (kinds : List OperandKind) (xs : List ℕ) (g : Option Term) → AreInRange d kinds xs →
-    IfSome g (λ t. NamesOperands kinds (tree_of t)) → IfSome g (λ t. OperandsFit (context_of_description d) xs (tree_of t))
+    IfSome g (λ t. NamesOperands d.facts.word kinds (tree_of t)) → IfSome g (λ t. OperandsFit (context_of_description d) xs (tree_of t))
 guard_fits d kinds xs None range names = tt
 guard_fits d kinds xs (Some t) range names = operands_fit d kinds xs (tree_of t) range names
 
-dest_fits : (d : Description) (kinds : List OperandKind) (xs : List ℕ) (to : Dest) → AreInRange d kinds xs → NamesDest kinds to →
+dest_fits : (d : Description) (kinds : List OperandKind) (xs : List ℕ) (to : Dest) → AreInRange d kinds xs → NamesDest d.facts.word kinds to →
     DestFits (context_of_description d) xs to
 dest_fits d kinds xs (dest.Reg p) range names = place_fits d kinds xs p range names
 dest_fits d kinds xs (dest.Mem width address) range names = operands_fit d kinds xs (tree_of address) range names
@@ -112,18 +118,13 @@ dest_fits d kinds xs dest.Out range names = tt
 dest_fits d kinds xs dest.Halt range names = tt
 dest_fits d kinds xs dest.Trap range names = tt
 
-rtl_fits : (d : Description) (kinds : List OperandKind) (xs : List ℕ) (rtl : Rtl) → AreInRange d kinds xs → All (EffectNames kinds) rtl.effects →
+rtl_fits : (d : Description) (kinds : List OperandKind) (xs : List ℕ) (rtl : Rtl) → AreInRange d kinds xs → All (EffectNames d.facts.word kinds) rtl.effects →
     RtlFits (context_of_description d) xs rtl
 rtl_fits d kinds xs rtl range names = λ k e h. record {
   guard = guard_fits d kinds xs (get_or rtl.effects k e).guard range (names k e h).guard;
   value = operands_fit d kinds xs (tree_of (get_or rtl.effects k e).value) range (names k e h).value;
   to = dest_fits d kinds xs (get_or rtl.effects k e).to range (names k e h).to;
 }
-
-pub valid_at : (d : Description) (number : ℕ) (i : Instruction) → IsValid d → slice_get d.instructions number ≡ Some i → IsValidInstruction d i
-valid_at d number i valid is =
-    subst (IsValidInstruction d) (get_or_from_slice_get d.instructions number i i is)
-    (valid.instructions number i (slice_get_within d.instructions number i is))
 
 -- the instruction of an instance that stands at the program counter, once it was read, may be applied
 pub typed_there : (d : Description) (s : State) (number : ℕ) (i : Instruction) → IsValid d → IsMachineOf d s → slice_get d.instructions number ≡ Some i →

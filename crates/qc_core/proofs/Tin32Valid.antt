@@ -1,5 +1,5 @@
 -- tin32 is a valid description.
-use Rattle.std.proofs.Common.{◌≡◌, ◌≤◌, [], ◌∷◌, refl, sym, ap, inr, arith, lit<, lit≤}
+use Rattle.std.proofs.Common.{◌≡◌, ◌≤◌, [], ◌∷◌, refl, sym, ap, inl, inr, arith, lit<, lit≤}
 use Rattle.std.proofs.lemmas.Option.{same_Some}
 use Rattle.std.proofs.lemmas.List.Elements.{All-from_recursion}
 use Rattle.std.specs.Prelude.{All, length, true, ◌%◌}
@@ -69,9 +69,9 @@ const_valid = record {
     to = rw (tree_of-imm 1 32) (lit< tt, refl);
   });
   event = lit≤ tt;
-  names = one_holds (EffectNames (kinds_of const_instruction)) _ (record {
+  names = one_holds (EffectNames tin32.facts.word (kinds_of const_instruction)) _ (record {
     guard = tt;
-    value = rw (tree_of-imm 1 32) refl;
+    value = rw (tree_of-imm 1 32) (inl refl);
     to = refl;
   });
   covered = record {
@@ -80,7 +80,8 @@ const_valid = record {
     tokens = refl;
     no_free_bit = refl;
     sizes = 4 ∷ 32 ∷ [];
-    sized = ((lit< tt, refl), (refl, tt));
+    dropped = 0 ∷ 0 ∷ [];
+    sized = ((lit< tt, refl), refl, (refl, refl, tt));
     within = refl;
     once = refl;
   };
@@ -95,7 +96,7 @@ out_valid = record {
     to = rw (tree_of-reg (Operand 0 0) 32) refl;
   });
   event = lit≤ tt;
-  names = one_holds (EffectNames (kinds_of out_instruction)) _ (record {
+  names = one_holds (EffectNames tin32.facts.word (kinds_of out_instruction)) _ (record {
     guard = tt;
     value = rw (tree_of-reg (Operand 0 0) 32) refl;
     to = tt;
@@ -106,7 +107,8 @@ out_valid = record {
     tokens = refl;
     no_free_bit = refl;
     sizes = 4 ∷ [];
-    sized = ((lit< tt, refl), tt);
+    dropped = 0 ∷ [];
+    sized = ((lit< tt, refl), refl, tt);
     within = refl;
     once = refl;
   };
@@ -121,7 +123,7 @@ halt_valid = record {
     to = rw (tree_of-reg (Operand 0 0) 32) refl;
   });
   event = lit≤ tt;
-  names = one_holds (EffectNames (kinds_of halt_instruction)) _ (record {
+  names = one_holds (EffectNames tin32.facts.word (kinds_of halt_instruction)) _ (record {
     guard = tt;
     value = rw (tree_of-reg (Operand 0 0) 32) refl;
     to = tt;
@@ -132,7 +134,8 @@ halt_valid = record {
     tokens = refl;
     no_free_bit = refl;
     sizes = 4 ∷ [];
-    sized = ((lit< tt, refl), tt);
+    dropped = 0 ∷ [];
+    sized = ((lit< tt, refl), refl, tt);
     within = refl;
     once = refl;
   };

@@ -19,10 +19,10 @@ pub record AgreesOn (d : Description) (p : ConstantProgram) (image : Image) (ins
   pub program_follows : (n : ℕ) (now : Progress) → RunsTo d (loaded_state d image input) n now →
       Below (observation_of now) (program_shows p ((n + 1) * (weight_of p + 1)))
 
--- For every input of words of the machine. The code decodes into two instances for each statement.
+-- For every input of words of the machine. The code decodes, from address 0 on, into two instances for each statement.
 pub record Agrees (d : Description) (p : ConstantProgram) (image : Image) : Type 0 where
   pub instances : List InstanceOf
-  pub decodes : DecodesInto d image.code instances
+  pub decodes : DecodesInto d 0 image.code instances
   pub twice : length instances ≡ 2 * length (statements_of p)
   pub runs : (input : List ℕ) → All (λ word. word < 2 ^ d.facts.word) input →
       AgreesOn d p image (length instances) input

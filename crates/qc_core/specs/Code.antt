@@ -3,7 +3,7 @@ use Rattle.std.specs.Prelude.{ℕ, List, [], ◌∷◌, ◌++◌}
 use Rattle.std.specs.List.{flat_map}
 use Rattle.qc_terms.specs.declared.image.Image.{Image}
 use Rattle.qc_descr.specs.declared.description.Description.{Description}
-use Rattle.qc_descr.specs.Encoding.{InstanceOf, instance_bytes}
+use Rattle.qc_descr.specs.Encoding.{InstanceOf, code_bytes}
 use Rattle.qc_core.specs.declared.constants.ConstantProgram.{ConstantProgram}
 
 -- const into cell 0, and op_out and op_halt of cell 0
@@ -17,22 +17,20 @@ abbrev pub halt_with_cell : InstanceOf
 halt_with_cell = record { number = 2; operands = 0 ∷ [] }
 
 -- each output loads its constant and puts it out, and the end loads its constant and halts with it
+abbrev pub output_of : ℕ → List InstanceOf
+output_of word = load_constant word ∷ put_cell ∷ []
+
+abbrev pub return_of : ℕ → List InstanceOf
+return_of word = load_constant word ∷ halt_with_cell ∷ []
+
 abbrev pub instructions_for : ConstantProgram → List InstanceOf
-instructions_for p =
-    flat_map (λ word. load_constant word ∷ put_cell ∷ []) p.outputs ++ load_constant p.returned ∷ halt_with_cell ∷ []
+instructions_for p = flat_map output_of p.outputs ++ return_of p.returned
 
--- the bytes of an output, and of the end
-abbrev pub output_bytes : Description → ℕ → List ℕ
-output_bytes d word = instance_bytes d (load_constant word) ++ instance_bytes d put_cell
-
-abbrev pub return_bytes : Description → ℕ → List ℕ
-return_bytes d word = instance_bytes d (load_constant word) ++ instance_bytes d halt_with_cell
-
--- the image of a program: the bytes of its instructions one after another, and no data
+-- the image of a program: the bytes of its instructions one after another from address 0, and no data
 abbrev pub image_of : Description → ConstantProgram → Image
 image_of d p = record {
   word = d.facts.word;
   order = d.facts.order;
-  code = flat_map (instance_bytes d) (instructions_for p);
+  code = code_bytes d 0 (instructions_for p);
   initial = [];
 }

@@ -4,7 +4,6 @@ pub mod Calls
 pub mod Code
 pub mod Command
 pub mod ConstantProgram
-pub mod Decoding
 pub mod Example
 pub mod Faults
 pub mod Files

@@ -9,6 +9,8 @@ use Rattle.qc_terms.specs.declared.term.Term.{Term}
 use Rattle.qc_terms.specs.declared.term.Term.TheVariants as term
 use Rattle.qc_descr.specs.declared.coding.Bit.{Bit}
 use Rattle.qc_descr.specs.declared.coding.Bit.TheVariants.{Fixed, Piece}
+use Rattle.qc_descr.specs.declared.coding.Reach.{Reach}
+use Rattle.qc_descr.specs.declared.coding.Reach.TheVariants.{Plain}
 use Rattle.qc_descr.specs.declared.description.Description.{Description}
 use Rattle.qc_descr.specs.declared.description.Instruction.{Instruction}
 use Rattle.qc_descr.specs.declared.description.OperandKind.{OperandKind}
@@ -39,13 +41,13 @@ empty_token = fixed_bits 32 0
 unfoldable pub immediate_token : List Bit
 immediate_token = operand_bits 32 1
 
--- an instruction with one effect and two tokens of 32 bits
-abbrev pub instruction_of : List ℕ → List (List ℕ × OperandKind) → Dest → Term → List Bit → Instruction
-instruction_of name operands to value bits = record {
+-- an instruction with one effect and two tokens of 32 bits; all operands of tin32 are coded as they are
+abbrev pub instruction_of : List ℕ → List (List ℕ × OperandKind) → Dest → Term → List Bit → List Reach → Instruction
+instruction_of name operands to value bits reaches = record {
   name = name;
   operands = operands;
   rtl = record { effects = record { guard = None; to = to; value = value } ∷ [] };
-  coding = record { tokens = 32 ∷ 32 ∷ []; bits = bits };
+  coding = record { tokens = 32 ∷ 32 ∷ []; bits = bits; reaches = reaches };
 }
 
 -- a register of the space r as operand 0 of this name
@@ -56,13 +58,13 @@ register_operand name = (name, Register 0)
 unfoldable pub const_instruction : Instruction
 const_instruction =
     instruction_of (codes "const") (register_operand (codes "d") ∷ (codes "k", Imm 32) ∷ [])
-    (dest.Reg (Operand 0 0)) (term.Imm 1 32) (first_token 2 ++ immediate_token)
+    (dest.Reg (Operand 0 0)) (term.Imm 1 32) (first_token 2 ++ immediate_token) (Plain ∷ Plain ∷ [])
 
 -- an instruction whose one effect gives the register that is operand 0 to a destination
 unfoldable pub register_instruction : List ℕ → Dest → ℕ → Instruction
 register_instruction name to opcode =
     instruction_of name (register_operand (codes "a") ∷ [])
-    to (term.Reg (Operand 0 0) 32) (first_token opcode ++ empty_token)
+    to (term.Reg (Operand 0 0) 32) (first_token opcode ++ empty_token) (Plain ∷ [])
 
 -- op_out: out := a
 unfoldable pub out_instruction : Instruction

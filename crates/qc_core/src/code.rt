@@ -2,17 +2,16 @@
 ghost use Rattle.std.specs.Prelude.{◌≡◌, ◌+◌, ◌*◌, ◌++◌, length, IfOk, OnOk};
 ghost use Rattle.std.specs.List.{flat_map};
 ghost use Rattle.qc_core.specs.Agreement.{Agrees};
-ghost use Rattle.qc_core.specs.Code.{image_of, load_constant, output_bytes, return_bytes};
-ghost use Rattle.qc_descr.specs.Encoding.{instance_bytes};
+ghost use Rattle.qc_core.specs.Code.{image_of, load_constant, output_of, return_of};
+ghost use Rattle.qc_descr.specs.Encoding.{Encodes, code_bytes, instance_bytes};
 ghost use Rattle.qc_core.specs.ConstantProgram.{IsConstantProgram};
-ghost use Rattle.qc_descr.specs.Encoding.{IsInstance};
 ghost use Rattle.qc_core.specs.Tin32.{tin32};
 ghost use Rattle.qc_descr.specs.Loading.{FitsMachine};
 ghost use Rattle.qc_descr.specs.Valid.{IsValid};
 
 use crate::constants::ConstantProgram;
-use crate::encoding::encode;
 use qc_descr::{Description, Instance, Operands, one_instance};
+use qc_encode::encode;
 use qc_terms::Image;
 use qc_text::NoMemory;
 use sqlite_items::Items;
@@ -28,7 +27,7 @@ const HALT_WITH_CELL: u32 = 2;
 /// The cell that each constant goes through.
 const CELL: u64 = 0;
 
-/// Puts the bytes of an instruction with its operands at the end of the code.
+/// Puts the bytes of an instruction with its operands at the end of the code, which is to stand from address 0 on.
 fn push_instruction(
     alloc: Global,
     code: &mut Vec<u8>,
@@ -37,9 +36,10 @@ fn push_instruction(
     operands: &[u64],
 ) -> Result<(), NoMemory>
     requires valid { IsValid descr.now }
-    requires instance { IsInstance descr.now instruction operands.now }
+    requires encodes { Encodes descr.now (length code.old.items) instruction operands.now
+        (instance_bytes descr.now (length code.old.items) (record { number = instruction; operands = operands.now })) }
     ensures { OnOk result (code.new.items ≡ code.old.items
-        ++ instance_bytes descr.now (record { number = instruction; operands = operands.now })) }
+        ++ instance_bytes descr.now (length code.old.items) (record { number = instruction; operands = operands.now })) }
 {
     let operands = Operands::from_slice(alloc, operands)?;
     let instance = Instance {
@@ -47,8 +47,10 @@ fn push_instruction(
         operands,
     };
     let mut bytes = [0; 16];
-    let size = encode(descr, &instance, &mut bytes);
-    code.extend_from_slice(&bytes[..size])
+    match encode(descr, &instance, code.len() as u64, &mut bytes) {
+        Ok(size) => code.extend_from_slice(&bytes[..size]),
+        Err(_) => unreachable!(),
+    }
 }
 
 fn push_constant(
@@ -58,7 +60,8 @@ fn push_constant(
     word: u32,
 ) -> Result<(), NoMemory>
     requires { descr.now ≡ tin32 }
-    ensures { OnOk result (code.new.items ≡ code.old.items ++ instance_bytes descr.now (load_constant word)) }
+    ensures { OnOk result (code.new.items ≡ code.old.items
+        ++ instance_bytes descr.now (length code.old.items) (load_constant word)) }
 {
     push_instruction(alloc, code, descr, LOAD_CONSTANT, &[CELL, u64::from(word)])
 }
@@ -70,7 +73,8 @@ fn push_output(
     word: u32,
 ) -> Result<(), NoMemory>
     requires { descr.now ≡ tin32 }
-    ensures { OnOk result (code.new.items ≡ code.old.items ++ output_bytes descr.now word) }
+    ensures { OnOk result (code.new.items ≡ code.old.items
+        ++ code_bytes descr.now (length code.old.items) (output_of word)) }
 {
     push_constant(alloc, code, descr, word)?;
     push_instruction(alloc, code, descr, PUT_CELL, &[CELL])
@@ -83,7 +87,8 @@ fn push_return(
     word: u32,
 ) -> Result<(), NoMemory>
     requires { descr.now ≡ tin32 }
-    ensures { OnOk result (code.new.items ≡ code.old.items ++ return_bytes descr.now word) }
+    ensures { OnOk result (code.new.items ≡ code.old.items
+        ++ code_bytes descr.now (length code.old.items) (return_of word)) }
 {
     push_constant(alloc, code, descr, word)?;
     push_instruction(alloc, code, descr, HALT_WITH_CELL, &[CELL])
@@ -97,7 +102,8 @@ fn push_outputs(
     words: &[u32],
 ) -> Result<(), NoMemory>
     requires { descr.now ≡ tin32 }
-    ensures { OnOk result (code.new.items ≡ code.old.items ++ flat_map (output_bytes descr.now) words.now) }
+    ensures { OnOk result (code.new.items ≡ code.old.items
+        ++ code_bytes descr.now (length code.old.items) (flat_map output_of words.now)) }
 {
     for word in words {
         push_output(alloc, code, descr, *word)?;

@@ -75,10 +75,10 @@ pub fn one_image()
     ensures { (a b : Image) → HasFile a → HasFile b → image_bytes a ≡ image_bytes b → a ≡ b }
 {}
 
-/// In a valid description a code decodes into at most one list of instances.
+/// In a valid description a code at an address decodes into at most one list of instances.
 pub fn one_decoding()
-    ensures { (d : Description) (code : List ℕ) (xs ys : List InstanceOf) →
-        IsValid d → DecodesInto d code xs → DecodesInto d code ys → xs ≡ ys }
+    ensures { (d : Description) (at : ℕ) (code : List ℕ) (xs ys : List InstanceOf) →
+        IsValid d → DecodesInto d at code xs → DecodesInto d at code ys → xs ≡ ys }
 {
     one_instance();
 }

@@ -4,11 +4,8 @@
 mod answer;
 mod calls;
 mod code;
-mod coding_bytes;
 mod command;
 mod constants;
-mod decoding;
-mod encoding;
 mod image_file;
 mod inputs;
 mod laws;
@@ -26,8 +23,6 @@ pub use answer::{Fault, Status};
 pub use code::compile;
 pub use command::quick;
 pub use constants::ConstantProgram;
-pub use decoding::decode;
-pub use encoding::encode;
 pub use image_file::write_image;
 pub use laws::{
     accepted_is_not_refused, accepted_unless_refused, example_of_seven, faultless_answers,

@@ -6,7 +6,7 @@ ghost use Rattle.qc_descr.specs.Loading.{loaded_memory as memory_of_image};
 ghost use Rattle.qc_descr.specs.Step.{Steps};
 ghost use Rattle.qc_descr.specs.Valid.{HasLayout, IsValid};
 
-use crate::decoding::decode;
+use qc_decode::Decoder;
 use qc_descr::Description;
 use qc_terms::{Cells, Event, Image, State, apply_rtl};
 use qc_text::NoMemory;
@@ -18,7 +18,7 @@ use std::marker::Model;
 /// A machine that runs an image. Contracts see it as its state.
 #[derive(Debug, Drop)]
 pub struct Machine {
-    alloc: Global,
+    decoder: Decoder,
     state: State,
 }
 
@@ -132,7 +132,8 @@ impl Machine {
             taken: 0,
             ending: None,
         };
-        Ok(Machine { alloc, state })
+        let decoder = Decoder::new(alloc, descr)?;
+        Ok(Machine { decoder, state })
     }
 
     /// The machine's state.
@@ -153,7 +154,7 @@ impl Machine {
             return event;
         }
         let memory = self.state.memory.as_slice();
-        let Some((instance, size)) = decode(self.alloc, descr, memory, self.state.pc) else {
+        let Some((instance, size)) = self.decoder.decode(descr, memory, self.state.pc) else {
             let trap = Event::Trapped { code: 4 };
             self.state.ending = Some(trap);
             return trap;

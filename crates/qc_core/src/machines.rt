@@ -2,7 +2,7 @@ ghost use Rattle.std.specs.Prelude.{◌≡◌, ◌++◌, ◌∷◌, [], ◌≤�
 ghost use Rattle.qc_descr.specs.Valid.{IsValid};
 ghost use Rattle.qc_core.specs.Tin32 as spec;
 
-use qc_descr::{Bit, Coding, Description, Instruction, OperandKind, Space};
+use qc_descr::{Bit, Coding, Description, Instruction, OperandKind, Reach, Space};
 use qc_terms::{Dest, Effect, Facts, Order, Place, Rtl, Term};
 use qc_text::{NoMemory, Text};
 use qc_words::Width;
@@ -65,11 +65,13 @@ fn instruction(
     to: Dest,
     value: Term,
     bits: Items<Bit>,
+    reaches: &[Reach],
 ) -> Result<Instruction, NoMemory>
-    ensures { IfOk result (λ i. i ≡ spec.instruction_of name.now operands to value bits) }
+    ensures { IfOk result (λ i. i ≡ spec.instruction_of name.now operands to value bits reaches.now) }
 {
     let name = Text::new(alloc, name)?;
     let tokens = Items::from_slice(alloc, &[32, 32])?;
+    let reaches = Items::from_slice(alloc, reaches)?;
     let mut effects = Items::new(alloc);
     effects.push(Effect {
         guard: None,
@@ -80,7 +82,11 @@ fn instruction(
         name,
         operands,
         rtl: Rtl { effects },
-        coding: Coding { tokens, bits },
+        coding: Coding {
+            tokens,
+            bits,
+            reaches,
+        },
     })
 }
 
@@ -108,7 +114,8 @@ fn const_instruction(alloc: Global) -> Result<Instruction, NoMemory>
     };
     let mut bits = first_token(alloc, 2)?;
     push_operand(&mut bits, 32, 1)?;
-    instruction(alloc, b"const", operands, to, value, bits)
+    let reaches = [Reach::Plain, Reach::Plain];
+    instruction(alloc, b"const", operands, to, value, bits, &reaches)
 }
 
 /// An instruction of one effect whose value is the register that is operand 0.
@@ -132,7 +139,7 @@ fn register_instruction(
     };
     let mut bits = first_token(alloc, opcode)?;
     push_fixed(&mut bits, 32, 0)?;
-    instruction(alloc, name, operands, to, value, bits)
+    instruction(alloc, name, operands, to, value, bits, &[Reach::Plain])
 }
 
 #[tactic(auto, unfolding(crate::specs::Tin32::out_instruction))]

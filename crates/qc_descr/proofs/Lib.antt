@@ -1,5 +1,5 @@
 pub mod Apart
-pub mod Bits
+pub mod Branch
 pub mod Endings
 pub mod Operands
 pub mod Runs

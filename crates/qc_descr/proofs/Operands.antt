@@ -1,37 +1,28 @@
 -- The operands of an instance, from the bits of its bytes.
-use Rattle.std.proofs.Common.{◌≡◌, ℕ, zero, suc, ◌<◌, ◌^◌, List, [], ◌∷◌, ◌++◌, length, map, Bool, true, false, ◌||◌, IsTrue, refl, sym, subst, arith, inl, inr, count_by, nat_eq}
+use Rattle.std.proofs.Common.{◌≡◌, ℕ, ◌<◌, ◌≤◌, List, [], ◌∷◌, ◌++◌, length, map, get_or, true, cond, IsTrue, sym, ◌∙◌, ap, arith, inl, inr, count_by, nat_eq, nat_lt}
 use Rattle.std.specs.Prelude.{slice_index}
 use Rattle.std.specs.Int.{bit_at}
 use Rattle.std.specs.List.{AllByRecursion, list_any}
-use Rattle.std.proofs.lemmas.Bool.{and_from, and_parts, both_ways, cases_Bool, cases_eq, eq-eqb, eqb-true}
-use Rattle.std.proofs.lemmas.Nat.Bits.{same_from_bits_below}
+use Rattle.std.proofs.lemmas.Bool.{cases_Bool, eqb-true, le-ltb}
+use Rattle.std.proofs.lemmas.List.{ext_get_or}
+use Rattle.std.proofs.lemmas.Nat.Bits.{same_from_bits}
+use Rattle.std.proofs.lemmas.Option.{slice_get-get_or}
 use Rattle.qc_descr.specs.declared.coding.Bit.{Bit}
-use Rattle.qc_descr.specs.declared.coding.Bit.TheVariants.{Piece}
+use Rattle.qc_descr.specs.declared.coding.Reach.{Reach}
 use Rattle.qc_descr.specs.declared.description.Description.{Description}
 use Rattle.qc_descr.specs.declared.description.Instruction.{Instruction}
 use Rattle.qc_descr.specs.declared.description.OperandKind.{OperandKind}
-use Rattle.qc_descr.specs.declared.description.OperandKind.TheVariants as kind
-use Rattle.qc_descr.specs.Coding.{bit_value, memory_bytes}
-use Rattle.qc_descr.specs.Description.{AreInRange, IsInRange, kinds_of}
-use Rattle.qc_descr.specs.Encoding.{byte_value}
-use Rattle.qc_descr.specs.Valid.{HasSize, HaveSizes, IsCovered, all_below, is_piece}
+use Rattle.qc_descr.specs.declared.description.OperandKind.TheVariants.{Address}
+use Rattle.qc_descr.specs.Coding.{bit_value, is_piece, memory_bytes}
+use Rattle.qc_descr.specs.Description.{AreInRange, kinds_of}
+use Rattle.qc_descr.specs.Encoding.{AreCodable, IsCodable, byte_value}
+use Rattle.qc_descr.specs.Reach.{coded_operands, coded_value}
+use Rattle.qc_descr.specs.Valid.{IsCovered}
+use Rattle.qc_descr.specs.Law.Bits.{EachBit, any_counted, below_of_all, each_of_tokens, piece_in_bytes, piece_stands}
+use Rattle.qc_descr.specs.Law.Operands.{SizedAt, coded_at, length-in_range, reached_once, sized_at}
 use Rattle.qc_descr.proofs.Apart.{byte_parts}
-use Rattle.qc_descr.proofs.Bits.{EachBit, each_of_tokens, piece_stands}
 
-or_none : (a b : Bool) → (a || b) ≡ false → (a ≡ false) × (b ≡ false)
-or_none true b h = cc
-or_none false b h = (refl, h)
-
-pub below_of_all : (n : ℕ) (test : ℕ → Bool) (k : ℕ) → all_below n test ≡ true → k < n → test k ≡ true
-unfolding all_below
-below_of_all zero test k h less = absurd (omega arith)
-below_of_all (suc n) test k h less =
-    elim (cases_eq k n) [
-      | inl same ↦ subst (λ i. test i ≡ true) (sym same) (and_parts _ _ h).0
-      | inr other ↦ below_of_all n test k (and_parts _ _ h).1 (omega (arith, other))
-    ]
-
--- the bit has the same value under both lists of operands
+-- the bit has the same value under both lists of coded values
 abbrev pub IsSame : List ℕ → List ℕ → Bit → Type 0
 IsSame xs ys b = bit_value xs b ≡ bit_value ys b
 
@@ -49,74 +40,64 @@ same_bytes xs ys more other (bits ∷ bytes) h =
     let rest : map (byte_value xs) bytes ++ more ≡ map (byte_value ys) bytes ++ other = cc in
     (same_byte xs ys bits first, same_bytes xs ys more other bytes rest)
 
-below_size : (d : Description) (k : OperandKind) (size operand : ℕ) → HasSize d k size → IsInRange d k operand → operand < 2 ^ size
-below_size d (kind.Register space) size operand has range = subst (λ n. operand < n) has.1 range
-below_size d (kind.Imm width) size operand has range = subst (λ n. operand < 2 ^ n) (sym has) range
-
--- operands with the same bits
-pub same_operands : (d : Description) (kinds : List OperandKind) (sizes xs ys : List ℕ) → HaveSizes d kinds sizes →
-    AreInRange d kinds xs → AreInRange d kinds ys →
-    ((operand bit : ℕ) → operand < length sizes → bit < slice_index sizes operand → bit_at (slice_index xs operand) bit ≡ bit_at (slice_index ys operand) bit) →
-    xs ≡ ys
-same_operands d [] [] [] [] sized a b same = refl
-same_operands d [] [] [] (y ∷ ys) sized a b same = absurd b
-same_operands d [] [] (x ∷ xs) ys sized a b same = absurd a
-same_operands d [] (size ∷ sizes) xs ys sized a b same = absurd sized
-same_operands d (k ∷ kinds) [] xs ys sized a b same = absurd sized
-same_operands d (k ∷ kinds) (size ∷ sizes) [] ys sized a b same = absurd a
-same_operands d (k ∷ kinds) (size ∷ sizes) (x ∷ xs) [] sized a b same = absurd b
-same_operands d (k ∷ kinds) (size ∷ sizes) (x ∷ xs) (y ∷ ys) sized a b same =
-    let first : x ≡ y =
-    same_from_bits_below size x y (below_size d k size x sized.0 a.0) (below_size d k size y sized.0 b.0)
-    (λ bit h. same 0 bit (omega arith) h) in
-    let rest : xs ≡ ys =
-    same_operands d kinds sizes xs ys sized.1 a.1 b.1 (λ operand bit h k. same (suc operand) bit (omega arith) k) in
-    cc
-
--- each bit of each operand stands once in the coding
-pub stands : (d : Description) (i : Instruction) (covered : IsCovered d i) (operand bit : ℕ) → operand < length covered.sizes →
-    bit < slice_index covered.sizes operand → 0 < count_by (is_piece operand bit) i.coding.bits
-stands d i covered operand bit within small =
-    let once : nat_eq (count_by (is_piece operand bit) i.coding.bits) 1 ≡ true =
+-- each bit of each operand that isn't dropped stands once in the coding
+stands : (d : Description) (i : Instruction) (covered : IsCovered d i) (operand bit : ℕ) → operand < length covered.sizes →
+    slice_index covered.dropped operand ≤ bit → bit < slice_index covered.sizes operand → list_any (is_piece operand bit) i.coding.bits ≡ true
+stands d i covered operand bit within above small =
+    let once : nat_eq (count_by (is_piece operand bit) i.coding.bits) (cond (nat_lt bit (slice_index covered.dropped operand)) 0 1) ≡ true =
     below_of_all (slice_index covered.sizes operand) _ bit (below_of_all (length covered.sizes) _ operand covered.once within) small in
-    omega (arith, eqb-true _ _ once)
-
-no_bit : (test : Bit → Bool) (bits : List Bit) → list_any test bits ≡ false → AllByRecursion (λ b. test b ≡ false) bits
-no_bit test [] h = tt
-no_bit test (b ∷ bits) h =
-    let parts : (test b ≡ false) × (list_any test bits ≡ false) = or_none (test b) (list_any test bits) h in
-    (parts.0, no_bit test bits parts.1)
-
-no_byte : (test : Bit → Bool) (bytes : List (List Bit)) → list_any (list_any test) bytes ≡ false → EachBit (λ b. test b ≡ false) bytes
-no_byte test [] h = tt
-no_byte test (bits ∷ bytes) h =
-    let parts : (list_any test bits ≡ false) × (list_any (list_any test) bytes ≡ false) = or_none (list_any test bits) (list_any (list_any test) bytes) h in
-    (no_bit test bits parts.0, no_byte test bytes parts.1)
-
-is_its_piece : (operand bit : ℕ) → is_piece operand bit (Piece operand bit) ≡ true
-is_its_piece operand bit = and_from _ _ (eq-eqb operand operand refl) (eq-eqb bit bit refl)
+    let count : count_by (is_piece operand bit) i.coding.bits ≡ 1 =
+    eqb-true _ _ once ∙ ap (λ t. cond t 0 1) (le-ltb bit (slice_index covered.dropped operand) above) in
+    any_counted (is_piece operand bit) i.coding.bits (omega arith)
 
 pub pieces_stand : (d : Description) (i : Instruction) (covered : IsCovered d i) (operand bit : ℕ) → operand < length covered.sizes →
-    bit < slice_index covered.sizes operand → IsTrue (list_any (list_any (is_piece operand bit)) (memory_bytes d.facts.order i.coding))
-pieces_stand d i covered operand bit within small =
-    elim (cases_Bool (list_any (list_any (is_piece operand bit)) (memory_bytes d.facts.order i.coding))) [
-      | inl there ↦ there
-      | inr none ↦
-          let absent : is_piece operand bit (Piece operand bit) ≡ false =
-          piece_stands (λ b. is_piece operand bit b ≡ false) operand bit i.coding.bits (stands d i covered operand bit within small)
-          (each_of_tokens (λ b. is_piece operand bit b ≡ false) d.facts.order i.coding.tokens i.coding.bits covered.tokens covered.no_free_bit
-          (no_byte (is_piece operand bit) (memory_bytes d.facts.order i.coding) none)) in
-          absurd (both_ways _ absent (is_its_piece operand bit))
+    slice_index covered.dropped operand ≤ bit → bit < slice_index covered.sizes operand →
+    IsTrue (list_any (list_any (is_piece operand bit)) (memory_bytes d.facts.order i.coding))
+pieces_stand d i covered operand bit within above small =
+    piece_in_bytes d.facts.order i.coding operand bit covered.tokens covered.no_free_bit (stands d i covered operand bit within above small)
+
+-- a bit of a coded value stands in the coding, or is 0
+same_bit : (d : Description) (i : Instruction) (reach : Reach) (at x y number bit : ℕ) (xs ys : List ℕ) →
+    slice_index xs number ≡ coded_value reach at x → slice_index ys number ≡ coded_value reach at y →
+    IsCodable i.coding.bits reach at number x → IsCodable i.coding.bits reach at number y →
+    AllByRecursion (IsSame xs ys) i.coding.bits → bit_at (coded_value reach at x) bit ≡ bit_at (coded_value reach at y) bit
+same_bit d i reach at x y number bit xs ys e f a b each =
+    elim (cases_Bool (list_any (is_piece number bit) i.coding.bits)) [
+      | inl placed ↦
+          ap (λ v. bit_at v bit) (sym e) ∙ piece_stands (IsSame xs ys) number bit i.coding.bits placed each ∙ ap (λ v. bit_at v bit) f
+      | inr none ↦ a.kept bit none ∙ sym (b.kept bit none)
     ]
 
--- the bytes determine the operands
-pub same_instance : (d : Description) (i : Instruction) (xs ys more other : List ℕ) → IsCovered d i →
-    AreInRange d (kinds_of i) xs → AreInRange d (kinds_of i) ys →
-    map (byte_value xs) (memory_bytes d.facts.order i.coding) ++ more ≡ map (byte_value ys) (memory_bytes d.facts.order i.coding) ++ other →
+-- so the bytes determine each operand
+same_operand : (d : Description) (i : Instruction) (at number : ℕ) (xs ys : List ℕ) → IsCovered d i →
+    AreInRange d (kinds_of i) xs → AreInRange d (kinds_of i) ys → AreCodable i.coding at xs → AreCodable i.coding at ys →
+    AllByRecursion (IsSame (coded_operands i.coding.reaches at xs) (coded_operands i.coding.reaches at ys)) i.coding.bits →
+    number < length xs → slice_index xs number ≡ slice_index ys number
+same_operand d i at number xs ys covered range other a b each within =
+    let count : length xs ≡ length (kinds_of i) = length-in_range d (kinds_of i) xs range in
+    let count_too : length ys ≡ length (kinds_of i) = length-in_range d (kinds_of i) ys other in
+    let k : OperandKind = get_or (kinds_of i) number Address in
+    let sized : SizedAt d k i.coding.reaches covered.sizes covered.dropped number =
+    sized_at d (kinds_of i) i.coding.reaches covered.sizes covered.dropped number k covered.sized
+    (slice_get-get_or (kinds_of i) number Address (omega arith)) in
+    let one : IsCodable i.coding.bits sized.reach at number (slice_index xs number) = a number sized.reach sized.is in
+    let two : IsCodable i.coding.bits sized.reach at number (slice_index ys number) = b number sized.reach sized.is in
+    reached_once d k sized.reach (slice_index covered.sizes number) at (slice_index xs number) (slice_index ys number) sized.size one.reached two.reached
+    (same_from_bits _ _ (λ bit. same_bit d i sized.reach at (slice_index xs number) (slice_index ys number) number bit
+    (coded_operands i.coding.reaches at xs) (coded_operands i.coding.reaches at ys)
+    (coded_at i.coding.reaches at xs number sized.reach sized.is within)
+    (coded_at i.coding.reaches at ys number sized.reach sized.is (omega arith)) one two each))
+
+pub same_instance : (d : Description) (i : Instruction) (at : ℕ) (xs ys more other : List ℕ) → IsCovered d i →
+    AreInRange d (kinds_of i) xs → AreInRange d (kinds_of i) ys → AreCodable i.coding at xs → AreCodable i.coding at ys →
+    map (byte_value (coded_operands i.coding.reaches at xs)) (memory_bytes d.facts.order i.coding) ++ more
+    ≡ map (byte_value (coded_operands i.coding.reaches at ys)) (memory_bytes d.facts.order i.coding) ++ other →
     xs ≡ ys
-same_instance d i xs ys more other covered a b h =
-    let each : AllByRecursion (IsSame xs ys) i.coding.bits =
-    each_of_tokens (IsSame xs ys) d.facts.order i.coding.tokens i.coding.bits covered.tokens covered.no_free_bit
-    (same_bytes xs ys more other (memory_bytes d.facts.order i.coding) h) in
-    same_operands d (kinds_of i) covered.sizes xs ys covered.sized a b (λ operand bit within small.
-    piece_stands (IsSame xs ys) operand bit i.coding.bits (stands d i covered operand bit within small) each)
+same_instance d i at xs ys more other covered range range_too a b h =
+    let coded : List ℕ = coded_operands i.coding.reaches at xs in
+    let coded_too : List ℕ = coded_operands i.coding.reaches at ys in
+    let each : AllByRecursion (IsSame coded coded_too) i.coding.bits =
+    each_of_tokens (IsSame coded coded_too) d.facts.order i.coding.tokens i.coding.bits covered.tokens covered.no_free_bit
+    (same_bytes coded coded_too more other (memory_bytes d.facts.order i.coding) h) in
+    ext_get_or 0 xs ys (length-in_range d (kinds_of i) xs range ∙ sym (length-in_range d (kinds_of i) ys range_too))
+    (λ number within. same_operand d i at number xs ys covered range range_too a b each within)

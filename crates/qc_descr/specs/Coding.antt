@@ -1,6 +1,6 @@
 -- Which bits encode an instruction: their values under the operands, and their places in memory.
 use Rattle.std.specs.Prelude.{ℕ, zero, suc, ◌+◌, ◌*◌, ◌/◌, List, [], ◌∷◌, ◌++◌, take, drop, reverse, slice_index, Bool}
-use Rattle.std.specs.Prelude.{false, ◌&&◌, ◌||◌, not, if◌then◌else◌}
+use Rattle.std.specs.Prelude.{false, ◌&&◌, ◌||◌, not, nat_eq, if◌then◌else◌}
 use Rattle.std.specs.Int.{bit_at}
 use Rattle.qc_terms.specs.declared.state.Order.{Order}
 use Rattle.qc_terms.specs.declared.state.Order.TheVariants.{Little, Big}
@@ -8,10 +8,15 @@ use Rattle.qc_descr.specs.declared.coding.Bit.{Bit}
 use Rattle.qc_descr.specs.declared.coding.Bit.TheVariants.{Fixed, Piece}
 use Rattle.qc_descr.specs.declared.coding.Coding.{Coding}
 
--- a bit's value, 0 or 1, under the operands
+-- a bit's value, 0 or 1, under the coded values of the operands
 abbrev pub bit_value : List ℕ → Bit → ℕ
 bit_value operands (Fixed one) = if one then 1 else 0
 bit_value operands (Piece operand bit) = bit_at (slice_index operands operand) bit
+
+-- the bit is this bit of this operand
+abbrev pub is_piece : ℕ → ℕ → Bit → Bool
+is_piece operand bit (Fixed one) = false
+is_piece operand bit (Piece o b) = nat_eq o operand && nat_eq b bit
 
 -- the number of a list of bits, the lowest one first
 abbrev pub number_of : List ℕ → ℕ

@@ -1,8 +1,12 @@
 pub mod Coding
 pub mod Description
 pub mod Encoding
+pub mod Example
+pub mod Law
 pub mod Loading
 pub mod Machine
+pub mod Parts
+pub mod Reach
 pub mod Step
 pub mod Valid
 pub use Rattle.qc_words.specs.Operators

@@ -8,9 +8,9 @@ use Rattle.qc_descr.specs.declared.description.Description.{Description}
 use Rattle.qc_descr.specs.Encoding.{Encodes}
 use Rattle.qc_descr.specs.Valid.{IsValid}
 
--- an instance encodes to a prefix of the memory from an address
+-- an instance at an address encodes to a prefix of the memory from there
 pub record EncodesAt (d : Description) (memory : List ℕ) (at number : ℕ) (operands bytes : List ℕ) : Type 0 where
-  pub encodes : Encodes d number operands bytes
+  pub encodes : Encodes d at number operands bytes
   pub more : List ℕ
   pub prefix : drop at memory ≡ bytes ++ more
 

@@ -1,7 +1,7 @@
 -- Valid descriptions.
 use Rattle.std.specs.Prelude.{ℕ, zero, suc, ◌≡◌, ◌≢◌, ◌<◌, ◌≤◌, ◌+◌, ◌/◌, ◌%◌, ◌^◌, ◌⊎◌, List, [], ◌∷◌, length, sum}
 use Rattle.std.specs.Prelude.{map, count_by, slice_get, slice_index, All, Contains, IsTrue, Bool, true, false, ◌&&◌}
-use Rattle.std.specs.Prelude.{◌||◌, nat_eq, nat_lt, Option, None, Some, IfSome}
+use Rattle.std.specs.Prelude.{◌||◌, nat_eq, nat_lt, if◌then◌else◌, Option, None, Some, IfSome}
 use Rattle.std.specs.List.{list_all}
 use Rattle.qc_terms.specs.declared.state.Order.{Order}
 use Rattle.qc_terms.specs.declared.term.Dest.{Dest}
@@ -17,12 +17,14 @@ use Rattle.qc_terms.specs.Typing.{HasOneEvent, IsTypedRtl}
 use Rattle.qc_descr.specs.declared.coding.Bit.{Bit}
 use Rattle.qc_descr.specs.declared.coding.Bit.TheVariants.{Fixed, Piece}
 use Rattle.qc_descr.specs.declared.coding.Coding.{Coding}
+use Rattle.qc_descr.specs.declared.coding.Reach.{Reach}
+use Rattle.qc_descr.specs.declared.coding.Reach.TheVariants.{Plain, Relative, Absolute}
 use Rattle.qc_descr.specs.declared.description.Description.{Description}
 use Rattle.qc_descr.specs.declared.description.Instruction.{Instruction}
 use Rattle.qc_descr.specs.declared.description.OperandKind.{OperandKind}
 use Rattle.qc_descr.specs.declared.description.OperandKind.TheVariants as kind
 use Rattle.qc_descr.specs.declared.description.Space.{Space}
-use Rattle.qc_descr.specs.Coding.{memory_bytes, bytes_differ}
+use Rattle.qc_descr.specs.Coding.{memory_bytes, bytes_differ, is_piece}
 use Rattle.qc_descr.specs.Description.{widths_of, counts_of, context_of_description, kinds_of, size_of}
 
 -- a cell of a space whose cells are words of the machine
@@ -84,86 +86,101 @@ pub record IsWithinLimits (d : Description) : Type 0 where
   pub effects : All (λ i. length i.rtl.effects ≤ 16) d.instructions
   pub nodes : All (λ i. nodes_of_rtl i.rtl ≤ 4096) d.instructions
 
--- an operand that is named as a register or an immediate is one, of this space or width
+-- An operand that is named as a register is one, of this space. One that is named as an immediate is one of this width,
+-- or an address, where the width is the word's.
 abbrev pub NamesPlace : List OperandKind → Place → Type 0
 NamesPlace kinds (place.Cell space index) = Unit {0}
 NamesPlace kinds (place.Operand space number) = slice_get kinds number ≡ Some (kind.Register space)
 
-abbrev pub NamesOperands : List OperandKind → Tree → Type 0
-NamesOperands kinds (Number value width) = Unit {0}
-NamesOperands kinds (Unary op arg) = NamesOperands kinds arg
-NamesOperands kinds (Binary op left right) = NamesOperands kinds left × NamesOperands kinds right
-NamesOperands kinds (Register place width) = NamesPlace kinds place
-NamesOperands kinds (Immediate operand width) = slice_get kinds operand ≡ Some (kind.Imm width)
-NamesOperands kinds (Load width address) = NamesOperands kinds address
-NamesOperands kinds (NextInput width) = Unit {0}
-NamesOperands kinds (AddressAfter width) = Unit {0}
+abbrev pub NamesImmediate : ℕ → List OperandKind → ℕ → ℕ → Type 0
+NamesImmediate word kinds operand width =
+    (slice_get kinds operand ≡ Some (kind.Imm width))
+    ⊎ ((slice_get kinds operand ≡ Some kind.Address) × (width ≡ word))
+
+abbrev pub NamesOperands : ℕ → List OperandKind → Tree → Type 0
+NamesOperands word kinds (Number value width) = Unit {0}
+NamesOperands word kinds (Unary op arg) = NamesOperands word kinds arg
+NamesOperands word kinds (Binary op left right) = NamesOperands word kinds left × NamesOperands word kinds right
+NamesOperands word kinds (Register place width) = NamesPlace kinds place
+NamesOperands word kinds (Immediate operand width) = NamesImmediate word kinds operand width
+NamesOperands word kinds (Load width address) = NamesOperands word kinds address
+NamesOperands word kinds (NextInput width) = Unit {0}
+NamesOperands word kinds (AddressAfter width) = Unit {0}
 
 -- the same for a destination
-abbrev pub NamesDest : List OperandKind → Dest → Type 0
-NamesDest kinds (dest.Reg place) = NamesPlace kinds place
-NamesDest kinds (dest.Mem width address) = NamesOperands kinds (tree_of address)
-NamesDest kinds _ = Unit {0}
+abbrev pub NamesDest : ℕ → List OperandKind → Dest → Type 0
+NamesDest word kinds (dest.Reg place) = NamesPlace kinds place
+NamesDest word kinds (dest.Mem width address) = NamesOperands word kinds (tree_of address)
+NamesDest word kinds _ = Unit {0}
 
--- an effect names each operand as what it is
-pub record EffectNames (kinds : List OperandKind) (e : Effect) : Type 0 where
-  pub guard : IfSome e.guard (λ g. NamesOperands kinds (tree_of g))
-  pub value : NamesOperands kinds (tree_of e.value)
-  pub to : NamesDest kinds e.to
+-- an effect names each operand as what it is, for a machine of words of this width
+pub record EffectNames (word : ℕ) (kinds : List OperandKind) (e : Effect) : Type 0 where
+  pub guard : IfSome e.guard (λ g. NamesOperands word kinds (tree_of g))
+  pub value : NamesOperands word kinds (tree_of e.value)
+  pub to : NamesDest word kinds e.to
 
--- an operand's number of bits: 2 to that number is its space's number of cells, or it is the immediate's width
-abbrev pub HasSize : Description → OperandKind → ℕ → Type 0
-HasSize d (kind.Register space) size = (space < length d.spaces) × (slice_index (counts_of d) space ≡ 2 ^ size)
-HasSize d (kind.Imm width) size = size ≡ width
+-- An operand's number of bits: 2 to that number is its space's number of cells, or it is the immediate's width. These
+-- are coded as they are. An address is relative or absolute, and has the bits of its reach, at most a word's.
+abbrev pub HasSize : Description → OperandKind → Reach → ℕ → Type 0
+HasSize d (kind.Register space) Plain size =
+    (space < length d.spaces) × (slice_index (counts_of d) space ≡ 2 ^ size)
+HasSize d (kind.Imm width) Plain size = size ≡ width
+HasSize d kind.Address (Relative bits) size = (1 ≤ bits) × (bits ≤ d.facts.word) × (size ≡ bits)
+HasSize d kind.Address (Absolute bits) size = (1 ≤ bits) × (bits ≤ d.facts.word) × (size ≡ bits)
+HasSize d _ _ size = ⊥
 
-abbrev pub HaveSizes : Description → List OperandKind → List ℕ → Type 0
-HaveSizes d [] [] = Unit {0}
-HaveSizes d [] (size ∷ sizes) = ⊥
-HaveSizes d (k ∷ kinds) [] = ⊥
-HaveSizes d (k ∷ kinds) (size ∷ sizes) = HasSize d k size × HaveSizes d kinds sizes
+-- how many of an operand's lowest bits stand nowhere in the coding: of an address some, of any other operand none
+abbrev pub MayDrop : OperandKind → ℕ → ℕ → Type 0
+MayDrop kind.Address size dropped = dropped ≤ size
+MayDrop _ size dropped = dropped ≡ 0
+
+-- each operand has one reach, a size, and a number of dropped bits
+abbrev pub HaveSizes : Description → List OperandKind → List Reach → List ℕ → List ℕ → Type 0
+HaveSizes d [] [] [] [] = Unit {0}
+HaveSizes d (k ∷ kinds) (reach ∷ reaches) (size ∷ sizes) (n ∷ dropped) =
+    HasSize d k reach size × MayDrop k size n × HaveSizes d kinds reaches sizes dropped
+HaveSizes d _ _ _ _ = ⊥
 
 -- the test of each number below n
 unfoldable pub all_below : ℕ → (ℕ → Bool) → Bool
 all_below zero test = true
 all_below (suc n) test = test n && all_below n test
 
--- the bit is this bit of this operand
-abbrev pub is_piece : ℕ → ℕ → Bit → Bool
-is_piece operand bit (Fixed one) = false
-is_piece operand bit (Piece o b) = nat_eq o operand && nat_eq b bit
-
 -- a fixed bit, or a bit that an operand of these sizes has
 abbrev pub is_within : List ℕ → Bit → Bool
 is_within sizes (Fixed one) = true
 is_within sizes (Piece operand bit) = nat_lt operand (length sizes) && nat_lt bit (slice_index sizes operand)
 
--- each bit of each operand stands in just one place
-abbrev pub stands_once : List ℕ → List Bit → Bool
-stands_once sizes bits =
+-- each bit of each operand stands in just one place, but for the lowest ones that are dropped, which stand in none
+abbrev pub stands_once : List ℕ → List ℕ → List Bit → Bool
+stands_once sizes dropped bits =
     all_below (length sizes) (λ operand.
-    all_below (slice_index sizes operand) (λ bit. nat_eq (count_by (is_piece operand bit) bits) 1))
+    all_below (slice_index sizes operand) (λ bit.
+    nat_eq (count_by (is_piece operand bit) bits) (if nat_lt bit (slice_index dropped operand) then 0 else 1)))
 
 -- a size that a token may have
 abbrev pub is_token : ℕ → Bool
 is_token size = nat_eq size 8 || nat_eq size 16 || nat_eq size 32
 
--- The tokens have fitting sizes and no free bit, and each bit of each operand stands in just one place.
+-- The tokens have fitting sizes and no free bit, and each bit of each operand stands in just one place, but for lowest
+-- bits of addresses that are dropped.
 pub record IsCovered (d : Description) (i : Instruction) : Type 0 where
   pub some_token : 1 ≤ length i.coding.tokens
   pub few_tokens : length i.coding.tokens ≤ 4
   pub tokens : IsTrue (list_all is_token i.coding.tokens)
   pub no_free_bit : length i.coding.bits ≡ sum i.coding.tokens
   pub sizes : List ℕ
-  pub sized : HaveSizes d (kinds_of i) sizes
+  pub dropped : List ℕ
+  pub sized : HaveSizes d (kinds_of i) i.coding.reaches sizes dropped
   pub within : IsTrue (list_all (is_within sizes) i.coding.bits)
-  pub once : IsTrue (stands_once sizes i.coding.bits)
+  pub once : IsTrue (stands_once sizes dropped i.coding.bits)
 
 -- The register transfer list is well typed, shows one thing at most and names the operands as what they are; and the
 -- coding leaves no bit open.
 pub record IsValidInstruction (d : Description) (i : Instruction) : Type 0 where
   pub typed : IsTypedRtl (context_of_description d) i.rtl
   pub event : HasOneEvent i.rtl
-  pub names : All (EffectNames (kinds_of i)) i.rtl.effects
+  pub names : All (EffectNames d.facts.word (kinds_of i)) i.rtl.effects
   pub covered : IsCovered d i
 
 -- For each two instructions some bit, by its place in memory and below both lengths, is constant in both and not equal,

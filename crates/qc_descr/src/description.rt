@@ -5,11 +5,13 @@ use qc_words::Width;
 use smallvec::SmallVec;
 use sqlite_items::Items;
 
-/// What an operand is: the number of a register of a space, or an immediate number.
+/// What an operand is: the number of a register of a space, an immediate number, or an address of code, which is a word
+/// of the machine.
 #[derive(Clone, Copy, Debug, PartialEq, Eq)]
 pub enum OperandKind {
     Register { space: u32 },
     Imm { width: Width },
+    Address,
 }
 
 /// A space of cells. The cells of a space of flags have one bit and are not allocated.
@@ -56,7 +58,7 @@ pub struct Description {
 /// The operands of an instance, in order. Up to eight stand inline.
 pub type Operands = SmallVec<u64, 8>;
 
-/// An instruction, by its number in the description, with its operands: numbers of registers and immediates.
+/// An instruction, by its number in the description, with its operands: numbers of registers, immediates and addresses.
 #[derive(Debug, Drop)]
 pub struct Instance {
     pub instruction: u32,

@@ -1,21 +1,24 @@
 //! Facts about all descriptions. A caller of one of these functions has its `ensures`; no code runs.
-ghost use Rattle.std.specs.Prelude.{◌≡◌, ℕ, ◌<◌, List, length, None, slice_index, IsTrue};
+ghost use Rattle.std.specs.Prelude.{◌≡◌, ℕ, ◌<◌, ◌≤◌, List, [], ◌∷◌, length, None, slice_index, IsTrue};
 ghost use Rattle.std.specs.List.{list_any};
 ghost use Rattle.qc_terms.specs.declared.state.State.{State};
 ghost use Rattle.qc_terms.specs.Effects.{Outcome};
 ghost use Rattle.qc_terms.specs.Observation.{ending_of};
 ghost use Rattle.qc_descr.specs.declared.description.Description.{Description};
 ghost use Rattle.qc_descr.specs.declared.description.Instruction.{Instruction};
-ghost use Rattle.qc_descr.specs.Coding.{memory_bytes};
+ghost use Rattle.qc_descr.specs.Coding.{is_piece, memory_bytes};
+ghost use Rattle.qc_descr.specs.Encoding.{IsCodedBy};
+ghost use Rattle.qc_descr.specs.Example.{branch};
 ghost use Rattle.qc_descr.specs.Step.{OneInstance, Progress, RunsTo, Steps};
-ghost use Rattle.qc_descr.specs.Valid.{IsCovered, IsValid, is_piece};
+ghost use Rattle.qc_descr.specs.Valid.{IsCovered, IsValid};
 
 use qc_terms::events_tell_endings;
 
-/// Each bit of each operand stands in one of the instruction's bytes in memory.
+/// Each bit of each operand stands in one of the instruction's bytes in memory, but for the lowest ones that are dropped.
 pub fn pieces_stand()
     ensures { (d : Description) (i : Instruction) (covered : IsCovered d i) (operand bit : ℕ) →
-        operand < length covered.sizes → bit < slice_index covered.sizes operand →
+        operand < length covered.sizes → slice_index covered.dropped operand ≤ bit →
+        bit < slice_index covered.sizes operand →
         IsTrue (list_any (list_any (is_piece operand bit)) (memory_bytes d.facts.order i.coding)) }
 {}
 
@@ -51,4 +54,14 @@ pub fn one_run()
 /// A run has a state and an output after each number of steps.
 pub fn some_run()
     ensures { (d : Description) (s : State) (steps : ℕ) → (p : Progress) × RunsTo d s steps p }
+{}
+
+/// A branch, by hand: it is a valid coding, it has these bytes where it goes 8 bytes forward or back, and none where it
+/// would go too far or to an address that its dropped bits can't tell.
+pub fn example_of_branch()
+    ensures covered { (d : Description) → 6 ≤ d.facts.word → IsCovered d branch }
+    ensures forward { (d : Description) → 8 ≤ d.facts.word → IsCodedBy d branch 100 (108 ∷ []) (0x25 ∷ []) }
+    ensures back { (d : Description) → 8 ≤ d.facts.word → IsCodedBy d branch 100 (92 ∷ []) (0xE5 ∷ []) }
+    ensures too_far { (d : Description) (bytes : List ℕ) → IsCodedBy d branch 100 (132 ∷ []) bytes → ⊥ }
+    ensures unaligned { (d : Description) (bytes : List ℕ) → IsCodedBy d branch 100 (109 ∷ []) bytes → ⊥ }
 {}

@@ -5,11 +5,16 @@
 #![tactic(auto)]
 
 mod coding;
+mod coding_bytes;
 mod description;
 mod laws;
+mod parts;
 
-pub use coding::{Bit, Coding};
+pub use coding::{Bit, Coding, Reach};
+pub use coding_bytes::{byte_value, coding_size, memory_byte};
 pub use description::{Description, Instance, Instruction, OperandKind, Operands, Space};
 pub use laws::{
-    one_instance, one_outcome, one_run, pieces_stand, some_outcome, some_run, step_tells_ending,
+    example_of_branch, one_instance, one_outcome, one_run, pieces_stand, some_outcome, some_run,
+    step_tells_ending,
 };
+pub use parts::{Given, Operation};

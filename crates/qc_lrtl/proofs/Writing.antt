@@ -1,6 +1,7 @@
 -- What is printed, piece after piece.
 use Rattle.std.proofs.Common.{append_assoc}
-use Rattle.qc_lrtl.specs.Printed.{expr_words-literal, expr_words-input, expr_words-after, expr_words-mem, expr_words-zx, expr_words-sx, expr_words-slice, expr_words-name, expr_words-call, expr_words-cell, printed-append}
+use Rattle.qc_lrtl.specs.Printed.{expr_words-literal, expr_words-input, expr_words-after, expr_words-mem, expr_words-zx, expr_words-sx, expr_words-slice, expr_words-name, expr_words-call, expr_words-cell}
+use Rattle.qc_text.specs.Spaced.{spaced-append}
 
 pub ruleset writing = (
   expr_words-literal,
@@ -13,6 +14,6 @@ pub ruleset writing = (
   expr_words-name,
   expr_words-call,
   expr_words-cell,
-  printed-append,
+  spaced-append,
   append_assoc,
 )

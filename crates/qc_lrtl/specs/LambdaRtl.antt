@@ -1,10 +1,8 @@
 -- The grammar of machine texts, rule by rule. Words in quotes are reserved, and no names.
-use Rattle.std.specs.Prelude.{ℕ, ◌^◌, min, Bool, true, false, List, [], ◌∷◌, Option, codes, ◌≡◌, refl}
+use Rattle.std.specs.Prelude.{ℕ, Bool, true, false, List, [], ◌∷◌, Option, codes, ◌≡◌, refl}
 use Rattle.qc_text.specs.declared.cursor.Ident.{Ident}
-use Rattle.qc_text.specs.declared.token.Kind.TheVariants as kind
 use Rattle.qc_text.specs.Lexeme.{Class, Word, Lexeme}
-use Rattle.qc_text.specs.Numerals.{number_in}
-use Rattle.qc_text.specs.Grammar.{Grammar, nonterminal, empty, repetition, ◌<+>◌, ◌*>◌, ◌<*◌, ◌<|>◌, ◌<$>◌, word, name, ident, optional, Syntax}
+use Rattle.qc_text.specs.Grammar.{Grammar, nonterminal, empty, repetition, ◌<+>◌, ◌*>◌, ◌<*◌, ◌<|>◌, ◌<$>◌, word, name, number, optional, Syntax}
 use Rattle.qc_text.specs.Reading.{reads}
 use Rattle.qc_text.specs.Clean.{IsReadable, is_clean}
 use Rattle.qc_text.specs.Law.Fuel.{unroll}
@@ -41,10 +39,6 @@ pub data Rule : Type 0 where
 abbrev pub TreeOf : Rule → Type 0
 TreeOf any_expr = Expr
 
--- number, with its value
-unfoldable pub number : Grammar Rule TreeOf Number
-number = number_in <$> ident kind.Number
-
 -- next_expr = "," expr
 unfoldable pub next_expr : Grammar Rule TreeOf Expr
 next_expr = word (codes ",") *> nonterminal any_expr
@@ -76,16 +70,20 @@ after_name =
     <|> (λ at n. expression.Cell n at) <$> cell
     <|> empty (λ n. expression.Name n)
 
--- built = "input" | "after" | "mem" number address | "zx" number argument | "sx" number argument
---       | "slice" number number argument
+-- resized = "zx" number argument | "sx" number argument | "slice" number number argument
+unfoldable pub resized : Grammar Rule TreeOf Expr
+resized =
+    (λ p. expression.Zx p.0 p.1.0 p.1.1) <$> word (codes "zx") <+> number <+> argument
+    <|> (λ p. expression.Sx p.0 p.1.0 p.1.1) <$> word (codes "sx") <+> number <+> argument
+    <|> (λ p. expression.Slice p.0 p.1.0 p.1.1.0 p.1.1.1) <$> word (codes "slice") <+> number <+> number <+> argument
+
+-- built = "input" | "after" | "mem" number address | resized
 unfoldable pub built : Grammar Rule TreeOf Expr
 built =
     expression.Input <$> word (codes "input")
     <|> expression.After <$> word (codes "after")
     <|> (λ p. expression.Mem p.0 p.1.0 p.1.1) <$> word (codes "mem") <+> number <+> address
-    <|> (λ p. expression.Zx p.0 p.1.0 p.1.1) <$> word (codes "zx") <+> number <+> argument
-    <|> (λ p. expression.Sx p.0 p.1.0 p.1.1) <$> word (codes "sx") <+> number <+> argument
-    <|> (λ p. expression.Slice p.0 p.1.0 p.1.1.0 p.1.1.1) <$> word (codes "slice") <+> number <+> number <+> argument
+    <|> resized
 
 -- expr = number "'" number | name after_name | built
 unfoldable pub expr : Grammar Rule TreeOf Expr
@@ -200,27 +198,36 @@ region =
 unfoldable pub flags : Grammar Rule TreeOf Bool
 flags = (λ _. true) <$> word (codes "flags") <|> empty false
 
--- of_cells = "space" name number "cells" number "bits" flags | "zero" name number | "frame" name number
---          | "link" name number | "allocatable" name number ".." number
-unfoldable pub of_cells : Grammar Rule TreeOf Item
-of_cells =
-    (λ p. fact.Space p.0 p.1.0 p.1.1.0 p.1.1.1.0 p.1.1.1.1)
-    <$> word (codes "space") <+> name <+> number <* word (codes "cells") <+> number <* word (codes "bits") <+> flags
-    <|> (λ p. fact.Zero p.0 p.1.0 p.1.1) <$> word (codes "zero") <+> name <+> number
+-- role = "zero" name number | "frame" name number | "link" name number | "allocatable" name number ".." number
+unfoldable pub role : Grammar Rule TreeOf Item
+role =
+    (λ p. fact.Zero p.0 p.1.0 p.1.1) <$> word (codes "zero") <+> name <+> number
     <|> (λ p. fact.Frame p.0 p.1.0 p.1.1) <$> word (codes "frame") <+> name <+> number
     <|> (λ p. fact.Link p.0 p.1.0 p.1.1) <$> word (codes "link") <+> name <+> number
     <|> (λ p. fact.Allocatable p.0 p.1.0 p.1.1.0 p.1.1.1)
     <$> word (codes "allocatable") <+> name <+> number <* word (codes "..") <+> number
 
--- declaration = "fun" name params "=" expr | "eff" name params "=" rtl | "instr" name operands "=" rtl
+-- of_cells = "space" name number "cells" number "bits" flags | role
+unfoldable pub of_cells : Grammar Rule TreeOf Item
+of_cells =
+    (λ p. fact.Space p.0 p.1.0 p.1.1.0 p.1.1.1.0 p.1.1.1.1)
+    <$> word (codes "space") <+> name <+> number <* word (codes "cells") <+> number <* word (codes "bits") <+> flags
+    <|> role
+
+-- instruction = "instr" name operands "=" rtl
+unfoldable pub instruction : Grammar Rule TreeOf Item
+instruction =
+    (λ p. fact.Instruction p.0 p.1.0 p.1.1.0 p.1.1.1)
+    <$> word (codes "instr") <+> name <+> operands <* word (codes "=") <+> rtl
+
+-- declaration = "fun" name params "=" expr | "eff" name params "=" rtl | instruction
 unfoldable pub declaration : Grammar Rule TreeOf Item
 declaration =
     (λ p. fact.Function p.0 p.1.0 p.1.1.0 p.1.1.1)
     <$> word (codes "fun") <+> name <+> params <* word (codes "=") <+> nonterminal any_expr
     <|> (λ p. fact.Effects p.0 p.1.0 p.1.1.0 p.1.1.1)
     <$> word (codes "eff") <+> name <+> params <* word (codes "=") <+> rtl
-    <|> (λ p. fact.Instruction p.0 p.1.0 p.1.1.0 p.1.1.1)
-    <$> word (codes "instr") <+> name <+> operands <* word (codes "=") <+> rtl
+    <|> instruction
 
 -- item = single | region | of_cells | declaration
 unfoldable pub item : Grammar Rule TreeOf Item
@@ -249,9 +256,9 @@ abbrev pub lambda_rtl : Syntax Rule TreeOf
 lambda_rtl = record { rule = rule; goes_on = goes_on }
 
 pub lambda_rtl_is_readable : IsReadable lambda_rtl machine
-unfolding number next_expr exprs arguments address argument cell after_name built expr assigned after_target simple
+unfolding next_expr exprs arguments address argument cell after_name resized built expr assigned after_target simple
     guard effect next_effect rtl arity param next_param some_params params operand_kind operand next_operand
-    some_operands operands order single region flags of_cells declaration item ended_item items machine
+    some_operands operands order single region flags role of_cells instruction declaration item ended_item items machine
 lambda_rtl_is_readable = record { rules = record { depth = 1; rules = elim [ any_expr ↦ refl ] }; start = refl }
 
 -- the rule is read as its grammar is
@@ -261,20 +268,20 @@ expr_unrolls = unroll lambda_rtl lambda_rtl_is_readable.rules any_expr
 
 -- what the loops repeat can be repeated
 pub next_effect_repeats : is_clean lambda_rtl (repetition next_effect) ≡ true
-unfolding number next_expr exprs arguments address cell assigned after_target simple guard effect next_effect expr
-    built argument after_name
+unfolding next_expr exprs arguments address cell assigned after_target simple guard effect next_effect expr
+    resized built argument after_name
 next_effect_repeats = refl
 
 pub next_param_repeats : is_clean lambda_rtl (repetition next_param) ≡ true
-unfolding number arity param next_param
+unfolding arity param next_param
 next_param_repeats = refl
 
 pub next_operand_repeats : is_clean lambda_rtl (repetition next_operand) ≡ true
-unfolding number operand_kind operand next_operand
+unfolding operand_kind operand next_operand
 next_operand_repeats = refl
 
 pub ended_item_repeats : is_clean lambda_rtl (repetition ended_item) ≡ true
-unfolding number next_expr exprs arguments address argument cell after_name built expr assigned after_target simple
+unfolding next_expr exprs arguments address argument cell after_name resized built expr assigned after_target simple
     guard effect next_effect rtl arity param next_param some_params params operand_kind operand next_operand
-    some_operands operands order single region flags of_cells declaration item ended_item
+    some_operands operands order single region flags role of_cells instruction declaration item ended_item
 ended_item_repeats = refl

@@ -1,17 +1,15 @@
 -- What is printed for a tree, and that each text of the tree spells it.
-use Rattle.std.specs.Prelude.{ℕ, ◌^◌, min, Bool, true, false, List, [], ◌∷◌, ◌++◌, map, Option, None, Some, Ok, codes, ◌≡◌}
-use Rattle.std.specs.Fmt.{decimal}
+use Rattle.std.specs.Prelude.{ℕ, Bool, true, false, List, [], ◌∷◌, ◌++◌, map, Option, None, Some, codes, ◌≡◌}
 use Rattle.std.specs.List.{flat_map}
-use Rattle.std.proofs.Common.{refl, ap, sym, ◌∙◌, append_assoc}
+use Rattle.std.proofs.Common.{refl, ap, sym, ◌∙◌}
 use Rattle.qc_text.specs.declared.cursor.Ident.{Ident}
-use Rattle.qc_text.specs.declared.token.Kind.{Kind}
-use Rattle.qc_text.specs.declared.token.Kind.TheVariants as kind
-use Rattle.qc_text.specs.Numerals.{number_in, number_of}
+use Rattle.qc_text.specs.Numerals.{number_in}
 use Rattle.qc_text.specs.Lexeme.{Lexeme, ident_of}
 use Rattle.qc_text.specs.Grammar.{Grammar}
 use Rattle.qc_text.specs.Language.{IsPhrase}
 use Rattle.qc_text.specs.Spelled as spell
-use Rattle.qc_text.specs.TextAnswer.{IsTextAnswer}
+use Rattle.qc_text.specs.Spaced.{Words, joined, after_separators}
+use Rattle.qc_text.specs.Printing.{as_text, digits}
 use Rattle.qc_text.specs.declared.number.Number.{Number}
 use Rattle.qc_lrtl.specs.declared.syntax.Expr.{Expr, fold-Expr, fold-roll-Expr}
 use Rattle.qc_lrtl.specs.declared.syntax.Expr.TheVariants as expr
@@ -32,26 +30,6 @@ use Rattle.qc_lrtl.specs.declared.syntax.RawMachine.{RawMachine}
 use Rattle.qc_lrtl.specs.LambdaRtl as grammar
 use Rattle.qc_lrtl.specs.LambdaRtl.{Rule, TreeOf, any_expr, lambda_rtl, machine, reserved}
 
-abbrev pub Words : Type 0
-Words = List (List ℕ)
-
--- A number is spelled by the decimal digits of its value, another token by its text.
-abbrev pub as_text : Kind → List ℕ → List ℕ
-as_text kind.Number text = decimal (min (number_of text) (2 ^ 64))
-as_text kind.Name text = text
-as_text kind.Prim text = text
-as_text kind.Str text = text
-as_text kind.Punct text = text
-as_text kind.End text = text
-
-abbrev pub digits : Number → List ℕ
-digits n = decimal n.value
-
--- with a comma between them
-abbrev pub joined : List Words → Words
-joined [] = []
-joined (x ∷ xs) = x ++ flat_map (λ y. codes "," ∷ y) xs
-
 abbrev pub expr_layer : Expr-F Words → Words
 expr_layer (Literal value bits) = digits value ∷ codes "'" ∷ digits bits ∷ []
 expr_layer (Input token) = codes "input" ∷ []
@@ -61,7 +39,7 @@ expr_layer (Zx token bits arg) = codes "zx" ∷ digits bits ∷ codes "(" ∷ (a
 expr_layer (Sx token bits arg) = codes "sx" ∷ digits bits ∷ codes "(" ∷ (arg ++ codes ")" ∷ [])
 expr_layer (Slice token low bits arg) = codes "slice" ∷ digits low ∷ digits bits ∷ codes "(" ∷ (arg ++ codes ")" ∷ [])
 expr_layer (Name name) = name.text ∷ []
-expr_layer (Call name args) = name.text ∷ codes "(" ∷ (joined args ++ codes ")" ∷ [])
+expr_layer (Call name args) = name.text ∷ codes "(" ∷ (joined (codes ",") args ++ codes ")" ∷ [])
 expr_layer (Cell space cell) = space.text ∷ codes "[" ∷ digits cell ∷ codes "]" ∷ []
 
 -- the words of an expression
@@ -77,14 +55,11 @@ abbrev pub exprs_words : List Expr → Words
 exprs_words [] = []
 exprs_words (x ∷ xs) = expr_words x ++ flat_map comma_words xs
 
-after_commas : (xs : List Expr) → flat_map (λ y. codes "," ∷ y) (map expr_words xs) ≡ flat_map comma_words xs
+joined_words : (xs : List Expr) → joined (codes ",") (map expr_words xs) ≡ exprs_words xs
 unfolding comma_words
-after_commas [] = refl
-after_commas (x ∷ xs) = ap (λ ws. comma_words x ++ ws) (after_commas xs)
-
-joined_words : (xs : List Expr) → joined (map expr_words xs) ≡ exprs_words xs
 joined_words [] = refl
-joined_words (x ∷ xs) = ap (λ ws. expr_words x ++ ws) (after_commas xs)
+joined_words (x ∷ xs) =
+    ap (λ ws. expr_words x ++ ws) (after_separators (codes ",") expr_words comma_words (λ y. refl) xs)
 
 pub expr_words-literal : (value bits : Number)
     → expr_words (expr.Literal value bits) ≡ digits value ∷ codes "'" ∷ digits bits ∷ []
@@ -240,6 +215,24 @@ item_words (fact.Effects token name params body) =
 item_words (fact.Instruction token name operands body) =
     codes "instr" ∷ name.text ∷ ((operands_words operands ++ codes "=" ∷ []) ++ rtl_words body)
 
+-- a function, an effect or an instruction
+abbrev pub IsDeclaration : Item → Type 0
+IsDeclaration (fact.Function token name params body) = Unit {0}
+IsDeclaration (fact.Effects token name params body) = Unit {0}
+IsDeclaration (fact.Instruction token name operands body) = Unit {0}
+IsDeclaration (fact.Word token bits) = ⊥
+IsDeclaration (fact.ByteOrder token order) = ⊥
+IsDeclaration (fact.Align token bytes) = ⊥
+IsDeclaration (fact.SlotBits token bits) = ⊥
+IsDeclaration (fact.Memory token bytes) = ⊥
+IsDeclaration (fact.Code token end) = ⊥
+IsDeclaration (fact.Data token end) = ⊥
+IsDeclaration (fact.Space token name cells bits flags) = ⊥
+IsDeclaration (fact.Zero token space cell) = ⊥
+IsDeclaration (fact.Frame token space cell) = ⊥
+IsDeclaration (fact.Link token space cell) = ⊥
+IsDeclaration (fact.Allocatable token space first last) = ⊥
+
 -- an item and a semicolon
 unfoldable pub ended_words : Item → Words
 ended_words item = item_words item ++ codes ";" ∷ []
@@ -256,10 +249,10 @@ abbrev Spells : {A : Type 0} → Grammar Rule TreeOf A → (A → Words) → Typ
 Spells g words_of = spell.EachSpells as_text rule_words g (λ words x. words ≡ words_of x)
 
 expr_spells : Spells grammar.expr expr_words
-unfolding grammar.expr grammar.number grammar.after_name grammar.arguments grammar.exprs grammar.next_expr grammar.cell
-    grammar.built grammar.address grammar.argument comma_words
+unfolding grammar.expr grammar.after_name grammar.arguments grammar.exprs grammar.next_expr grammar.cell
+    grammar.built grammar.resized grammar.address grammar.argument comma_words
 expr_spells = (
-  (λ t q u. sym (expr_words-literal (number_in (ident_of t)) (number_in (ident_of u)))),
+  (λ t q u. sym (expr_words-literal (number_in t) (number_in u))),
   (
     (λ n. (
       (λ t. (
@@ -267,7 +260,7 @@ expr_spells = (
         (λ x. (comma_words, (λ u y. refl), λ xs u. sym (expr_words-call (ident_of n) (x ∷ xs)))),
       )),
       (
-        (λ t k u. sym (expr_words-cell (ident_of n) (number_in (ident_of k)))),
+        (λ t k u. sym (expr_words-cell (ident_of n) (number_in k))),
         sym (expr_words-name (ident_of n)),
       ),
     )),
@@ -276,12 +269,12 @@ expr_spells = (
       (
         (λ t. sym (expr_words-after t.number)),
         (
-          (λ t k u x v. sym (expr_words-mem t.number (number_in (ident_of k)) x)),
+          (λ t k u x v. sym (expr_words-mem t.number (number_in k) x)),
           (
-            (λ t k u x v. sym (expr_words-zx t.number (number_in (ident_of k)) x)),
+            (λ t k u x v. sym (expr_words-zx t.number (number_in k) x)),
             (
-              (λ t k u x v. sym (expr_words-sx t.number (number_in (ident_of k)) x)),
-              (λ t l k u x v. sym (expr_words-slice t.number (number_in (ident_of l)) (number_in (ident_of k)) x)),
+              (λ t k u x v. sym (expr_words-sx t.number (number_in k) x)),
+              (λ t l k u x v. sym (expr_words-slice t.number (number_in l) (number_in k) x)),
             ),
           ),
         ),
@@ -291,7 +284,7 @@ expr_spells = (
 )
 
 simple_spells : Spells grammar.simple simple_words
-unfolding grammar.simple grammar.number grammar.address grammar.assigned grammar.after_target grammar.cell
+unfolding grammar.simple grammar.address grammar.assigned grammar.after_target grammar.cell
     grammar.arguments grammar.exprs grammar.next_expr comma_words
 simple_spells = (
   (λ n. (
@@ -325,7 +318,7 @@ rtl_spells =
     ))
 
 param_spells : Spells grammar.param param_words
-unfolding grammar.param grammar.arity grammar.number param_words
+unfolding grammar.param grammar.arity param_words
 param_spells = λ n. ((λ t k. refl), refl)
 
 params_spells : Spells grammar.params params_words
@@ -342,7 +335,7 @@ params_spells = λ t. (
 )
 
 operand_spells : Spells grammar.operand operand_words
-unfolding grammar.operand grammar.operand_kind grammar.number operand_words
+unfolding grammar.operand grammar.operand_kind operand_words
 operand_spells = λ n t. ((λ m. refl), ((λ u k. refl), (λ u. refl)))
 
 operands_spells : Spells grammar.operands operands_words
@@ -359,8 +352,8 @@ operands_spells = λ t. (
 )
 
 item_spells : Spells grammar.item item_words
-unfolding grammar.item grammar.single grammar.order grammar.region grammar.of_cells grammar.flags grammar.number
-    grammar.declaration item_words
+unfolding grammar.item grammar.single grammar.order grammar.region grammar.of_cells grammar.role grammar.flags
+    grammar.declaration grammar.instruction item_words
 item_spells = (
   ((λ t k. refl), ((λ t. ((λ u. refl), (λ u. refl))), ((λ t k. refl), (λ t k. refl)))),
   (
@@ -397,17 +390,3 @@ pub machine_texts : (tokens : List Lexeme) (raw : RawMachine) → IsPhrase lambd
 machine_texts tokens raw phrase =
     spell.texts_spell as_text lambda_rtl rule_words (elim [ any_expr ↦ expr_spells ]) machine machine_words
     machine_spells tokens raw phrase
-
--- each word, and a blank after it
-abbrev pub printed : Words → List ℕ
-printed words = flat_map (λ word. word ++ 32 ∷ []) words
-
-pub printed-append : (xs ys : Words) → printed (xs ++ ys) ≡ printed xs ++ printed ys
-printed-append [] ys = refl
-printed-append (x ∷ xs) ys = ap (λ bytes. (x ++ 32 ∷ []) ++ bytes) (printed-append xs ys)
-    ∙ sym (append_assoc (x ++ 32 ∷ []) (printed xs) (printed ys))
-
--- The file is a text of the grammar. Its tree is this one but for the numbers of tokens: it has the same words.
-abbrev pub IsTextOf : RawMachine → List ℕ → Type 0
-IsTextOf raw bytes = (other : RawMachine) × IsTextAnswer lambda_rtl machine reserved bytes (Ok other)
-    × (machine_words other ≡ machine_words raw)

@@ -6,7 +6,6 @@ ghost use Rattle.qc_text.specs.Grammar.{onto};
 ghost use Rattle.qc_lrtl.specs.LambdaRtl.{lambda_rtl, after_target, simple, guard, effect, next_effect, rtl};
 
 use crate::expressions::{read_address, read_any_expr, read_arguments, read_assigned, read_cell};
-use crate::number::read_number;
 use crate::syntax::{Effect, Guard, Simple};
 use qc_text::{Cursor, Ident, Kind, Stop};
 use sqlite_items::Items;
@@ -20,7 +19,7 @@ fn read_after_target(alloc: Global, cursor: &mut Cursor<'_>, name: Ident) -> Res
         let value = read_assigned(alloc, cursor)?;
         Ok(Simple::Name { name, value })
     } else if cursor.is_word(b"[") {
-        let cell = read_cell(alloc, cursor)?;
+        let cell = read_cell(cursor)?;
         let value = read_assigned(alloc, cursor)?;
         Ok(Simple::Cell {
             space: name,
@@ -43,7 +42,7 @@ fn read_simple(alloc: Global, cursor: &mut Cursor<'_>) -> Result<Simple, Stop>
         read_after_target(alloc, cursor, name)
     } else if cursor.is_word(b"mem") {
         let token = cursor.word(b"mem")?;
-        let bits = read_number(alloc, cursor)?;
+        let bits = cursor.number()?;
         let address = read_address(alloc, cursor)?;
         let value = read_assigned(alloc, cursor)?;
         Ok(Simple::Mem {

@@ -4,20 +4,19 @@ ghost use Rattle.qc_text.specs.Gives.{Gives};
 ghost use Rattle.qc_text.specs.Reading.{reads};
 ghost use Rattle.qc_text.specs.Grammar.{nonterminal, onto};
 ghost use Rattle.qc_lrtl.specs.LambdaRtl.{lambda_rtl, any_expr, next_expr, exprs, arguments, address, argument};
-ghost use Rattle.qc_lrtl.specs.LambdaRtl.{cell, after_name, built, expr, assigned};
+ghost use Rattle.qc_lrtl.specs.LambdaRtl.{cell, after_name, resized, built, expr, assigned};
 
-use crate::number::read_number;
 use crate::syntax::Expr;
 use qc_text::{Cursor, Ident, Kind, Number, Stop};
 use sqlite_items::{Boxed, Items};
 use std::alloc::Global;
 
 #[tactic(auto, unfolding(crate::specs::LambdaRtl::cell))]
-pub(crate) fn read_cell(alloc: Global, cursor: &mut Cursor<'_>) -> Result<Number, Stop>
+pub(crate) fn read_cell(cursor: &mut Cursor<'_>) -> Result<Number, Stop>
     ensures { Gives result cursor.old cursor.new (reads lambda_rtl cell) }
 {
     cursor.word(b"[")?;
-    let number = read_number(alloc, cursor)?;
+    let number = cursor.number()?;
     cursor.word(b"]")?;
     Ok(number)
 }
@@ -29,15 +28,15 @@ pub(crate) fn read_any_expr(alloc: Global, cursor: &mut Cursor<'_>) -> Result<Ex
     read_expr(alloc, cursor)
 }
 
-#[tactic(auto, unfolding(crate::specs::LambdaRtl::expr, crate::specs::LambdaRtl::number))]
+#[tactic(auto, unfolding(crate::specs::LambdaRtl::expr))]
 #[cycle(expressions)]
 fn read_expr(alloc: Global, cursor: &mut Cursor<'_>) -> Result<Expr, Stop>
     ensures { Gives result cursor.old cursor.new (reads lambda_rtl expr) }
 {
     if cursor.is_any(Kind::Number) {
-        let value = read_number(alloc, cursor)?;
+        let value = cursor.number()?;
         cursor.word(b"'")?;
-        let bits = read_number(alloc, cursor)?;
+        let bits = cursor.number()?;
         Ok(Expr::Literal { value, bits })
     } else if cursor.is_any(Kind::Name) {
         let name = cursor.ident(alloc, Kind::Name)?;
@@ -57,7 +56,7 @@ fn read_after_name(alloc: Global, cursor: &mut Cursor<'_>, name: Ident) -> Resul
         let args = read_arguments(alloc, cursor)?;
         Ok(Expr::Call { name, args })
     } else if cursor.is_word(b"[") {
-        let cell = read_cell(alloc, cursor)?;
+        let cell = read_cell(cursor)?;
         Ok(Expr::Cell { space: name, cell })
     } else {
         Ok(Expr::Name { name })
@@ -77,27 +76,37 @@ fn read_built(alloc: Global, cursor: &mut Cursor<'_>) -> Result<Expr, Stop>
         Ok(Expr::After { token })
     } else if cursor.is_word(b"mem") {
         let token = cursor.word(b"mem")?;
-        let bits = read_number(alloc, cursor)?;
+        let bits = cursor.number()?;
         let address = Boxed::new(alloc, read_address(alloc, cursor)?)?;
         Ok(Expr::Mem {
             token,
             bits,
             address,
         })
-    } else if cursor.is_word(b"zx") {
+    } else {
+        read_resized(alloc, cursor)
+    }
+}
+
+#[tactic(auto, unfolding(crate::specs::LambdaRtl::resized))]
+#[cycle(expressions)]
+fn read_resized(alloc: Global, cursor: &mut Cursor<'_>) -> Result<Expr, Stop>
+    ensures { Gives result cursor.old cursor.new (reads lambda_rtl resized) }
+{
+    if cursor.is_word(b"zx") {
         let token = cursor.word(b"zx")?;
-        let bits = read_number(alloc, cursor)?;
+        let bits = cursor.number()?;
         let arg = Boxed::new(alloc, read_argument(alloc, cursor)?)?;
         Ok(Expr::Zx { token, bits, arg })
     } else if cursor.is_word(b"sx") {
         let token = cursor.word(b"sx")?;
-        let bits = read_number(alloc, cursor)?;
+        let bits = cursor.number()?;
         let arg = Boxed::new(alloc, read_argument(alloc, cursor)?)?;
         Ok(Expr::Sx { token, bits, arg })
     } else {
         let token = cursor.word(b"slice")?;
-        let low = read_number(alloc, cursor)?;
-        let bits = read_number(alloc, cursor)?;
+        let low = cursor.number()?;
+        let bits = cursor.number()?;
         let arg = Boxed::new(alloc, read_argument(alloc, cursor)?)?;
         Ok(Expr::Slice {
             token,

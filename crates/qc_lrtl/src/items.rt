@@ -3,12 +3,11 @@ ghost use Rattle.std.specs.Prelude.{◌≡◌};
 ghost use Rattle.qc_text.specs.Gives.{Gives};
 ghost use Rattle.qc_text.specs.Reading.{reads, first, next_in};
 ghost use Rattle.qc_text.specs.Grammar.{nonterminal};
-ghost use Rattle.qc_lrtl.specs.LambdaRtl.{lambda_rtl, order, single, region, flags, of_cells, declaration, item};
-ghost use Rattle.qc_lrtl.specs.LambdaRtl.{ended_item, items};
+ghost use Rattle.qc_lrtl.specs.LambdaRtl.{lambda_rtl, order, single, region, flags, role, of_cells, instruction};
+ghost use Rattle.qc_lrtl.specs.LambdaRtl.{declaration, item, ended_item, items};
 
 use crate::effects::read_rtl;
 use crate::expressions::read_any_expr;
-use crate::number::read_number;
 use crate::params::{read_operands, read_params};
 use crate::syntax::{ByteOrder, Item};
 use qc_text::{Cursor, Kind, Stop};
@@ -29,12 +28,12 @@ fn read_order(cursor: &mut Cursor<'_>) -> Result<ByteOrder, Stop>
 }
 
 #[tactic(auto, unfolding(crate::specs::LambdaRtl::single))]
-fn read_single(alloc: Global, cursor: &mut Cursor<'_>) -> Result<Item, Stop>
+fn read_single(cursor: &mut Cursor<'_>) -> Result<Item, Stop>
     ensures { Gives result cursor.old cursor.new (reads lambda_rtl single) }
 {
     if cursor.is_word(b"word") {
         let token = cursor.word(b"word")?;
-        let bits = read_number(alloc, cursor)?;
+        let bits = cursor.number()?;
         Ok(Item::Word { token, bits })
     } else if cursor.is_word(b"byteorder") {
         let token = cursor.word(b"byteorder")?;
@@ -42,30 +41,30 @@ fn read_single(alloc: Global, cursor: &mut Cursor<'_>) -> Result<Item, Stop>
         Ok(Item::ByteOrder { token, order })
     } else if cursor.is_word(b"align") {
         let token = cursor.word(b"align")?;
-        let bytes = read_number(alloc, cursor)?;
+        let bytes = cursor.number()?;
         Ok(Item::Align { token, bytes })
     } else {
         let token = cursor.word(b"slotbits")?;
-        let bits = read_number(alloc, cursor)?;
+        let bits = cursor.number()?;
         Ok(Item::SlotBits { token, bits })
     }
 }
 
 #[tactic(auto, unfolding(crate::specs::LambdaRtl::region))]
-fn read_region(alloc: Global, cursor: &mut Cursor<'_>) -> Result<Item, Stop>
+fn read_region(cursor: &mut Cursor<'_>) -> Result<Item, Stop>
     ensures { Gives result cursor.old cursor.new (reads lambda_rtl region) }
 {
     if cursor.is_word(b"memory") {
         let token = cursor.word(b"memory")?;
-        let bytes = read_number(alloc, cursor)?;
+        let bytes = cursor.number()?;
         Ok(Item::Memory { token, bytes })
     } else if cursor.is_word(b"code") {
         let token = cursor.word(b"code")?;
-        let end = read_number(alloc, cursor)?;
+        let end = cursor.number()?;
         Ok(Item::Code { token, end })
     } else {
         let token = cursor.word(b"data")?;
-        let end = read_number(alloc, cursor)?;
+        let end = cursor.number()?;
         Ok(Item::Data { token, end })
     }
 }
@@ -82,6 +81,40 @@ fn read_flags(cursor: &mut Cursor<'_>) -> Result<bool, Stop>
     }
 }
 
+#[tactic(auto, unfolding(crate::specs::LambdaRtl::role))]
+fn read_role(alloc: Global, cursor: &mut Cursor<'_>) -> Result<Item, Stop>
+    ensures { Gives result cursor.old cursor.new (reads lambda_rtl role) }
+{
+    if cursor.is_word(b"zero") {
+        let token = cursor.word(b"zero")?;
+        let space = cursor.ident(alloc, Kind::Name)?;
+        let cell = cursor.number()?;
+        Ok(Item::Zero { token, space, cell })
+    } else if cursor.is_word(b"frame") {
+        let token = cursor.word(b"frame")?;
+        let space = cursor.ident(alloc, Kind::Name)?;
+        let cell = cursor.number()?;
+        Ok(Item::Frame { token, space, cell })
+    } else if cursor.is_word(b"link") {
+        let token = cursor.word(b"link")?;
+        let space = cursor.ident(alloc, Kind::Name)?;
+        let cell = cursor.number()?;
+        Ok(Item::Link { token, space, cell })
+    } else {
+        let token = cursor.word(b"allocatable")?;
+        let space = cursor.ident(alloc, Kind::Name)?;
+        let first = cursor.number()?;
+        cursor.word(b"..")?;
+        let last = cursor.number()?;
+        Ok(Item::Allocatable {
+            token,
+            space,
+            first,
+            last,
+        })
+    }
+}
+
 #[tactic(auto, unfolding(crate::specs::LambdaRtl::of_cells))]
 fn read_of_cells(alloc: Global, cursor: &mut Cursor<'_>) -> Result<Item, Stop>
     ensures { Gives result cursor.old cursor.new (reads lambda_rtl of_cells) }
@@ -89,9 +122,9 @@ fn read_of_cells(alloc: Global, cursor: &mut Cursor<'_>) -> Result<Item, Stop>
     if cursor.is_word(b"space") {
         let token = cursor.word(b"space")?;
         let name = cursor.ident(alloc, Kind::Name)?;
-        let cells = read_number(alloc, cursor)?;
+        let cells = cursor.number()?;
         cursor.word(b"cells")?;
-        let bits = read_number(alloc, cursor)?;
+        let bits = cursor.number()?;
         cursor.word(b"bits")?;
         let flags = read_flags(cursor)?;
         Ok(Item::Space {
@@ -101,34 +134,26 @@ fn read_of_cells(alloc: Global, cursor: &mut Cursor<'_>) -> Result<Item, Stop>
             bits,
             flags,
         })
-    } else if cursor.is_word(b"zero") {
-        let token = cursor.word(b"zero")?;
-        let space = cursor.ident(alloc, Kind::Name)?;
-        let cell = read_number(alloc, cursor)?;
-        Ok(Item::Zero { token, space, cell })
-    } else if cursor.is_word(b"frame") {
-        let token = cursor.word(b"frame")?;
-        let space = cursor.ident(alloc, Kind::Name)?;
-        let cell = read_number(alloc, cursor)?;
-        Ok(Item::Frame { token, space, cell })
-    } else if cursor.is_word(b"link") {
-        let token = cursor.word(b"link")?;
-        let space = cursor.ident(alloc, Kind::Name)?;
-        let cell = read_number(alloc, cursor)?;
-        Ok(Item::Link { token, space, cell })
     } else {
-        let token = cursor.word(b"allocatable")?;
-        let space = cursor.ident(alloc, Kind::Name)?;
-        let first = read_number(alloc, cursor)?;
-        cursor.word(b"..")?;
-        let last = read_number(alloc, cursor)?;
-        Ok(Item::Allocatable {
-            token,
-            space,
-            first,
-            last,
-        })
+        read_role(alloc, cursor)
     }
+}
+
+#[tactic(auto, unfolding(crate::specs::LambdaRtl::instruction))]
+fn read_instruction(alloc: Global, cursor: &mut Cursor<'_>) -> Result<Item, Stop>
+    ensures { Gives result cursor.old cursor.new (reads lambda_rtl instruction) }
+{
+    let token = cursor.word(b"instr")?;
+    let name = cursor.ident(alloc, Kind::Name)?;
+    let operands = read_operands(alloc, cursor)?;
+    cursor.word(b"=")?;
+    let body = read_rtl(alloc, cursor)?;
+    Ok(Item::Instruction {
+        token,
+        name,
+        operands,
+        body,
+    })
 }
 
 #[tactic(auto, unfolding(crate::specs::LambdaRtl::declaration))]
@@ -160,17 +185,7 @@ fn read_declaration(alloc: Global, cursor: &mut Cursor<'_>) -> Result<Item, Stop
             body,
         })
     } else {
-        let token = cursor.word(b"instr")?;
-        let name = cursor.ident(alloc, Kind::Name)?;
-        let operands = read_operands(alloc, cursor)?;
-        cursor.word(b"=")?;
-        let body = read_rtl(alloc, cursor)?;
-        Ok(Item::Instruction {
-            token,
-            name,
-            operands,
-            body,
-        })
+        read_instruction(alloc, cursor)
     }
 }
 
@@ -191,7 +206,7 @@ fn begins_region(cursor: &Cursor<'_>) -> bool
     cursor.is_word(b"memory") || cursor.is_word(b"code") || cursor.is_word(b"data")
 }
 
-#[tactic(auto, unfolding(crate::specs::LambdaRtl::of_cells))]
+#[tactic(auto, unfolding(crate::specs::LambdaRtl::of_cells, crate::specs::LambdaRtl::role))]
 fn begins_of_cells(cursor: &Cursor<'_>) -> bool
     ensures { result ≡ next_in (first lambda_rtl of_cells) cursor.now }
 {
@@ -202,14 +217,13 @@ fn begins_of_cells(cursor: &Cursor<'_>) -> bool
         || cursor.is_word(b"allocatable")
 }
 
-#[tactic(auto, unfolding(crate::specs::LambdaRtl::declaration))]
+#[tactic(auto, unfolding(crate::specs::LambdaRtl::declaration, crate::specs::LambdaRtl::instruction))]
 fn begins_declaration(cursor: &Cursor<'_>) -> bool
     ensures { result ≡ next_in (first lambda_rtl declaration) cursor.now }
 {
     cursor.is_word(b"fun") || cursor.is_word(b"eff") || cursor.is_word(b"instr")
 }
 
-#[tactic(auto, unfolding(crate::specs::LambdaRtl::ended_item, crate::specs::LambdaRtl::item, crate::specs::LambdaRtl::single, crate::specs::LambdaRtl::region, crate::specs::LambdaRtl::of_cells, crate::specs::LambdaRtl::declaration))]
 fn begins_item(cursor: &Cursor<'_>) -> bool
     ensures { result ≡ next_in (first lambda_rtl ended_item) cursor.now }
 {
@@ -224,9 +238,9 @@ fn read_item(alloc: Global, cursor: &mut Cursor<'_>) -> Result<Item, Stop>
     ensures { Gives result cursor.old cursor.new (reads lambda_rtl item) }
 {
     if begins_single(cursor) {
-        read_single(alloc, cursor)
+        read_single(cursor)
     } else if begins_region(cursor) {
-        read_region(alloc, cursor)
+        read_region(cursor)
     } else if begins_of_cells(cursor) {
         read_of_cells(alloc, cursor)
     } else {

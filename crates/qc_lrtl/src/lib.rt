@@ -5,12 +5,13 @@
 mod effects;
 mod expressions;
 mod items;
-mod number;
+mod laws;
 mod params;
 mod reader;
 mod syntax;
 mod writer;
 
+pub use laws::same_trees_have_the_same_words;
 pub use reader::read_lrtl;
 pub use syntax::{
     ByteOrder, Effect, Expr, Guard, Item, Operand, OperandKind, Param, RawMachine, Simple,

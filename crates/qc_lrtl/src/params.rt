@@ -5,19 +5,18 @@ ghost use Rattle.qc_text.specs.Reading.{reads};
 ghost use Rattle.qc_lrtl.specs.LambdaRtl.{lambda_rtl, arity, param, next_param, some_params, params, operand_kind};
 ghost use Rattle.qc_lrtl.specs.LambdaRtl.{operand, next_operand, some_operands, operands};
 
-use crate::number::read_number;
 use crate::syntax::{Operand, OperandKind, Param};
 use qc_text::{Cursor, Kind, Number, Stop};
 use sqlite_items::Items;
 use std::alloc::Global;
 
 #[tactic(auto, unfolding(crate::specs::LambdaRtl::arity))]
-fn read_arity(alloc: Global, cursor: &mut Cursor<'_>) -> Result<Option<Number>, Stop>
+fn read_arity(cursor: &mut Cursor<'_>) -> Result<Option<Number>, Stop>
     ensures { Gives result cursor.old cursor.new (reads lambda_rtl arity) }
 {
     if cursor.is_word(b"/") {
         cursor.word(b"/")?;
-        let arity = read_number(alloc, cursor)?;
+        let arity = cursor.number()?;
         Ok(Some(arity))
     } else {
         Ok(None)
@@ -29,7 +28,7 @@ fn read_param(alloc: Global, cursor: &mut Cursor<'_>) -> Result<Param, Stop>
     ensures { Gives result cursor.old cursor.new (reads lambda_rtl param) }
 {
     let name = cursor.ident(alloc, Kind::Name)?;
-    let arity = read_arity(alloc, cursor)?;
+    let arity = read_arity(cursor)?;
     Ok(Param { name, arity })
 }
 
@@ -80,7 +79,7 @@ fn read_kind(alloc: Global, cursor: &mut Cursor<'_>) -> Result<OperandKind, Stop
         Ok(OperandKind::Register { space })
     } else if cursor.is_word(b"imm") {
         let token = cursor.word(b"imm")?;
-        let bits = read_number(alloc, cursor)?;
+        let bits = cursor.number()?;
         Ok(OperandKind::Immediate { token, bits })
     } else {
         let token = cursor.word(b"addr")?;

@@ -5,7 +5,12 @@ use Rattle.std.proofs.Common.{refl, ap, sym, ◌∙◌, append_assoc}
 use Rattle.qc_text.specs.declared.cursor.Ident.{Ident}
 use Rattle.qc_text.specs.Lexeme.{Lexeme, ident_of}
 use Rattle.qc_text.specs.Language.{IsPhrase}
-use Rattle.qc_text.specs.Words.{spellings, EachSpells, texts_spell}
+use Rattle.qc_text.specs.Numerals.{number_in}
+use Rattle.qc_text.specs.Spaced.{Words, joined, after_separators}
+use Rattle.qc_text.specs.Spelled as spell
+use Rattle.qc_text.specs.Printing.{as_text, digits}
+use Rattle.qc_text.specs.Grammar.{Grammar}
+use Rattle.qc_text.specs.declared.number.Number as number
 use Rattle.qc_sample.specs.declared.syntax.Expr.{Expr, fold-Expr, fold-roll-Expr}
 use Rattle.qc_sample.specs.declared.syntax.Expr.TheVariants as expr
 use Rattle.qc_sample.specs.declared.syntax.Expr.TheOpen.{Expr-F, Number, Name, Not, Call, Index, Group}
@@ -16,23 +21,15 @@ use Rattle.qc_sample.specs.declared.syntax.Program.{Program}
 use Rattle.qc_sample.specs.Sample as grammar
 use Rattle.qc_sample.specs.Sample.{Rule, TreeOf, any_expr, any_statement, sample, program}
 
-abbrev pub Words : Type 0
-Words = List (List ℕ)
-
--- with a comma between them
-abbrev pub joined : List Words → Words
-joined [] = []
-joined (x ∷ xs) = x ++ flat_map (λ y. codes "," ∷ y) xs
-
 flat_of_map : {X : Type 0} (f : X → Words) (xs : List X) → flat_map (λ words. words) (map f xs) ≡ flat_map f xs
 flat_of_map f [] = refl
 flat_of_map f (x ∷ xs) = ap (λ ws. f x ++ ws) (flat_of_map f xs)
 
 abbrev pub expr_layer : Expr-F Words → Words
-expr_layer (Number text) = text.text ∷ []
+expr_layer (Number value) = digits value ∷ []
 expr_layer (Name name) = name.text ∷ []
 expr_layer (Not token arg) = codes "not" ∷ arg
-expr_layer (Call name args) = name.text ∷ codes "(" ∷ (joined args ++ codes ")" ∷ [])
+expr_layer (Call name args) = name.text ∷ codes "(" ∷ (joined (codes ",") args ++ codes ")" ∷ [])
 expr_layer (Index name at) = name.text ∷ codes "[" ∷ (at ++ codes "]" ∷ [])
 expr_layer (Group inner) = codes "(" ∷ (inner ++ codes ")" ∷ [])
 
@@ -49,18 +46,16 @@ abbrev pub exprs_words : List Expr → Words
 exprs_words [] = []
 exprs_words (x ∷ xs) = expr_words x ++ flat_map comma_words xs
 
-after_commas : (xs : List Expr) → flat_map (λ y. codes "," ∷ y) (map expr_words xs) ≡ flat_map comma_words xs
+joined_words : (xs : List Expr) → joined (codes ",") (map expr_words xs) ≡ exprs_words xs
 unfolding comma_words
-after_commas [] = refl
-after_commas (x ∷ xs) = ap (λ ws. comma_words x ++ ws) (after_commas xs)
-
-joined_words : (xs : List Expr) → joined (map expr_words xs) ≡ exprs_words xs
 joined_words [] = refl
-joined_words (x ∷ xs) = ap (λ ws. expr_words x ++ ws) (after_commas xs)
+joined_words (x ∷ xs) =
+    ap (λ ws. expr_words x ++ ws) (after_separators (codes ",") expr_words comma_words (λ y. refl) xs)
 
-pub expr_words-number : (text : Ident) → expr_words (expr.Number text) ≡ text.text ∷ []
+pub expr_words-number : (value : number.Number) → expr_words (expr.Number value) ≡ digits value ∷ []
 unfolding expr_words
-expr_words-number text = ap expr_words (sym (expr.rolls-Number text)) ∙ fold-roll-Expr Words expr_layer (Number text)
+expr_words-number value = ap expr_words (sym (expr.rolls-Number value))
+    ∙ fold-roll-Expr Words expr_layer (Number value)
 
 pub expr_words-call : (name : Ident) (args : List Expr)
     → expr_words (expr.Call name args) ≡ name.text ∷ codes "(" ∷ (exprs_words args ++ codes ")" ∷ [])
@@ -75,12 +70,14 @@ expr_words-name name = ap expr_words (sym (expr.rolls-Name name)) ∙ fold-roll-
 
 pub expr_words-not : (token : ℕ) (arg : Expr) → expr_words (expr.Not token arg) ≡ codes "not" ∷ expr_words arg
 unfolding expr_words
-expr_words-not token arg = ap expr_words (sym (expr.rolls-Not token arg)) ∙ fold-roll-Expr Words expr_layer (Not token arg)
+expr_words-not token arg = ap expr_words (sym (expr.rolls-Not token arg))
+    ∙ fold-roll-Expr Words expr_layer (Not token arg)
 
 pub expr_words-index : (name : Ident) (at : Expr)
     → expr_words (expr.Index name at) ≡ name.text ∷ codes "[" ∷ (expr_words at ++ codes "]" ∷ [])
 unfolding expr_words
-expr_words-index name at = ap expr_words (sym (expr.rolls-Index name at)) ∙ fold-roll-Expr Words expr_layer (Index name at)
+expr_words-index name at = ap expr_words (sym (expr.rolls-Index name at))
+    ∙ fold-roll-Expr Words expr_layer (Index name at)
 
 pub expr_words-group : (inner : Expr) → expr_words (expr.Group inner) ≡ codes "(" ∷ (expr_words inner ++ codes ")" ∷ [])
 unfolding expr_words
@@ -91,7 +88,8 @@ type_words None = []
 type_words (Some name) = codes ":" ∷ name.text ∷ []
 
 abbrev pub statement_layer : Statement-F Words → Words
-statement_layer (Let name type_of value) = codes "let" ∷ name.text ∷ (type_words type_of ++ (codes "=" ∷ (expr_words value ++ codes ";" ∷ [])))
+statement_layer (Let name type_of value) =
+    codes "let" ∷ name.text ∷ (type_words type_of ++ (codes "=" ∷ (expr_words value ++ codes ";" ∷ [])))
 statement_layer (Print values) = codes "print" ∷ (exprs_words values ++ codes ";" ∷ [])
 statement_layer (Block body) = codes "{" ∷ (flat_map (λ words. words) body ++ codes "}" ∷ [])
 statement_layer (Set name value) = name.text ∷ codes "=" ∷ (expr_words value ++ codes ";" ∷ [])
@@ -102,15 +100,18 @@ unfoldable pub statement_words : Statement → Words
 statement_words = fold-Statement Words statement_layer
 
 pub statement_words-let : (name : Ident) (type_of : Option Ident) (value : Expr)
-    → statement_words (statement.Let name type_of value) ≡ codes "let" ∷ name.text ∷ (type_words type_of ++ (codes "=" ∷ (expr_words value ++ codes ";" ∷ [])))
+    → statement_words (statement.Let name type_of value)
+    ≡ codes "let" ∷ name.text ∷ (type_words type_of ++ (codes "=" ∷ (expr_words value ++ codes ";" ∷ [])))
 unfolding statement_words
 statement_words-let name type_of value =
-    ap statement_words (sym (statement.rolls-Let name type_of value)) ∙ fold-roll-Statement Words statement_layer (Let name type_of value)
+    ap statement_words (sym (statement.rolls-Let name type_of value))
+    ∙ fold-roll-Statement Words statement_layer (Let name type_of value)
 
 pub statement_words-print : (values : List Expr)
     → statement_words (statement.Print values) ≡ codes "print" ∷ (exprs_words values ++ codes ";" ∷ [])
 unfolding statement_words
-statement_words-print values = ap statement_words (sym (statement.rolls-Print values)) ∙ fold-roll-Statement Words statement_layer (Print values)
+statement_words-print values = ap statement_words (sym (statement.rolls-Print values))
+    ∙ fold-roll-Statement Words statement_layer (Print values)
 
 pub statement_words-block : (body : List Statement)
     → statement_words (statement.Block body) ≡ codes "{" ∷ (flat_map statement_words body ++ codes "}" ∷ [])
@@ -122,12 +123,15 @@ statement_words-block body =
 pub statement_words-set : (name : Ident) (value : Expr)
     → statement_words (statement.Set name value) ≡ name.text ∷ codes "=" ∷ (expr_words value ++ codes ";" ∷ [])
 unfolding statement_words
-statement_words-set name value = ap statement_words (sym (statement.rolls-Set name value)) ∙ fold-roll-Statement Words statement_layer (Set name value)
+statement_words-set name value = ap statement_words (sym (statement.rolls-Set name value))
+    ∙ fold-roll-Statement Words statement_layer (Set name value)
 
 pub statement_words-do : (name : Ident) (args : List Expr)
-    → statement_words (statement.Do name args) ≡ name.text ∷ codes "(" ∷ (exprs_words args ++ codes ")" ∷ codes ";" ∷ [])
+    → statement_words (statement.Do name args)
+    ≡ name.text ∷ codes "(" ∷ (exprs_words args ++ codes ")" ∷ codes ";" ∷ [])
 unfolding statement_words
-statement_words-do name args = ap statement_words (sym (statement.rolls-Do name args)) ∙ fold-roll-Statement Words statement_layer (Do name args)
+statement_words-do name args = ap statement_words (sym (statement.rolls-Do name args))
+    ∙ fold-roll-Statement Words statement_layer (Do name args)
 
 -- the words of a program
 abbrev pub program_words : Program → Words
@@ -137,11 +141,15 @@ abbrev pub rule_words : (r : Rule) → TreeOf r → Words
 rule_words any_expr = expr_words
 rule_words any_statement = statement_words
 
--- each rule spells its tree's words, one line for each of its alternatives
-expr_spells : EachSpells rule_words grammar.expr (λ words e. words ≡ expr_words e)
+-- each rule spells its tree's words
+abbrev Spells : {A : Type 0} → Grammar Rule TreeOf A → (A → Words) → Type 0
+Spells g words_of = spell.EachSpells as_text rule_words g (λ words x. words ≡ words_of x)
+
+-- one line for each alternative
+expr_spells : Spells grammar.expr expr_words
 unfolding grammar.expr grammar.after_name grammar.arguments grammar.exprs grammar.next_expr comma_words
 expr_spells = (
-  (λ t. sym (expr_words-number (ident_of t))),
+  (λ t. sym (expr_words-number (number_in t))),
   (
     (λ t a. sym (expr_words-not t.number a)),
     (
@@ -160,8 +168,9 @@ expr_spells = (
   ),
 )
 
-statement_spells : EachSpells rule_words grammar.statement (λ words e. words ≡ statement_words e)
-unfolding grammar.statement grammar.statements grammar.simple grammar.type_of grammar.arguments grammar.exprs grammar.next_expr comma_words
+statement_spells : Spells grammar.statement statement_words
+unfolding grammar.statement grammar.statements grammar.simple grammar.type_of grammar.arguments grammar.exprs
+    grammar.next_expr comma_words
 statement_spells = (
   (λ t n. (
     (λ u m v a w. sym (statement_words-let (ident_of n) (Some (ident_of m)) a)),
@@ -179,7 +188,8 @@ statement_spells = (
             comma_words,
             (λ u y. refl),
             λ xs u v.
-                ap (λ ws. n.text ∷ codes "(" ∷ ws) (append_assoc (expr_words x ++ flat_map comma_words xs) (codes ")" ∷ []) (codes ";" ∷ []))
+                ap (λ ws. n.text ∷ codes "(" ∷ ws)
+                (append_assoc (expr_words x ++ flat_map comma_words xs) (codes ")" ∷ []) (codes ";" ∷ []))
                 ∙ sym (statement_words-do (ident_of n) (x ∷ xs)),
           )),
         )),
@@ -188,20 +198,13 @@ statement_spells = (
   ),
 )
 
-program_spells : EachSpells rule_words program (λ words p. words ≡ program_words p)
+program_spells : Spells program program_words
 unfolding program grammar.statements
 program_spells = λ t n u. (statement_words, (λ a. refl), λ xs. refl)
 
 -- each text of a program spells its words
 pub program_texts : (tokens : List Lexeme) (p : Program) → IsPhrase sample program tokens p
-    → spellings tokens ≡ program_words p
+    → spell.spellings as_text tokens ≡ program_words p
 program_texts tokens p phrase =
-    texts_spell sample rule_words (elim [ any_expr ↦ expr_spells | any_statement ↦ statement_spells ]) program program_words program_spells tokens p phrase
-
--- each word, and a blank after it
-abbrev pub printed : Words → List ℕ
-printed words = flat_map (λ word. word ++ 32 ∷ []) words
-
-pub printed-append : (xs ys : Words) → printed (xs ++ ys) ≡ printed xs ++ printed ys
-printed-append [] ys = refl
-printed-append (x ∷ xs) ys = ap (λ bytes. (x ++ 32 ∷ []) ++ bytes) (printed-append xs ys) ∙ sym (append_assoc (x ++ 32 ∷ []) (printed xs) (printed ys))
+    spell.texts_spell as_text sample rule_words (elim [ any_expr ↦ expr_spells | any_statement ↦ statement_spells ])
+    program program_words program_spells tokens p phrase

@@ -1,9 +1,8 @@
 -- The grammar of the sample language, rule by rule. Words in quotes are reserved, and no names.
 use Rattle.std.specs.Prelude.{ℕ, List, [], ◌∷◌, Option, codes, ◌≡◌, refl}
 use Rattle.qc_text.specs.declared.cursor.Ident.{Ident}
-use Rattle.qc_text.specs.declared.token.Kind.TheVariants as kind
 use Rattle.qc_text.specs.Lexeme.{Class, Word, Lexeme}
-use Rattle.qc_text.specs.Grammar.{Grammar, nonterminal, empty, repetition, ◌<+>◌, ◌*>◌, ◌<*◌, ◌<|>◌, ◌<$>◌, word, name, ident, optional, Syntax}
+use Rattle.qc_text.specs.Grammar.{Grammar, nonterminal, empty, repetition, ◌<+>◌, ◌*>◌, ◌<*◌, ◌<|>◌, ◌<$>◌, word, name, number, optional, Syntax}
 use Rattle.qc_text.specs.Reading.{reads}
 use Rattle.qc_text.specs.Clean.{IsReadable}
 use Rattle.qc_text.specs.Law.Fuel.{unroll}
@@ -47,7 +46,7 @@ after_name =
 -- expr = number | "not" expr | name after_name | "(" expr ")"
 unfoldable pub expr : Grammar Rule TreeOf Expr
 expr =
-    Number <$> ident kind.Number
+    Number <$> number
     <|> (λ p. Not p.0 p.1) <$> word (codes "not") <+> nonterminal any_expr
     <|> (λ p. p.1 p.0) <$> name <+> after_name
     <|> Group <$> word (codes "(") *> nonterminal any_expr <* word (codes ")")
@@ -69,14 +68,16 @@ statements = repetition (nonterminal any_statement)
 -- statement = "let" name type_of "=" expr ";" | "print" exprs ";" | "{" statements "}" | name simple ";"
 unfoldable pub statement : Grammar Rule TreeOf Statement
 statement =
-    (λ p. Let p.0 p.1.0 p.1.1) <$> (word (codes "let") *> name) <+> type_of <+> (word (codes "=") *> nonterminal any_expr <* word (codes ";"))
+    (λ p. Let p.0 p.1.0 p.1.1) <$> (word (codes "let") *> name) <+> type_of <+>
+    (word (codes "=") *> nonterminal any_expr <* word (codes ";"))
     <|> Print <$> word (codes "print") *> exprs <* word (codes ";")
     <|> Block <$> word (codes "{") *> statements <* word (codes "}")
     <|> (λ p. p.1 p.0) <$> name <+> simple <* word (codes ";")
 
 -- program = "program" name ";" statements
 unfoldable pub program : Grammar Rule TreeOf Program
-program = (λ p. record { name = p.0; body = p.1 }) <$> (word (codes "program") *> name <* word (codes ";")) <+> statements
+program = (λ p. record { name = p.0; body = p.1 }) <$> (word (codes "program") *> name <* word (codes ";")) <+>
+    statements
 
 abbrev pub rule : (r : Rule) → Grammar Rule TreeOf (TreeOf r)
 rule any_expr = expr

@@ -23,8 +23,8 @@ fn read_expr(alloc: Global, cursor: &mut Cursor<'_>) -> Result<Expr, Stop>
     ensures { Gives result cursor.old cursor.new (reads sample expr) }
 {
     if cursor.is_any(Kind::Number) {
-        let text = cursor.ident(alloc, Kind::Number)?;
-        Ok(Expr::Number { text })
+        let value = cursor.number()?;
+        Ok(Expr::Number { value })
     } else if cursor.is_word(b"not") {
         let token = cursor.word(b"not")?;
         let arg = Boxed::new(alloc, read_any_expr(alloc, cursor)?)?;

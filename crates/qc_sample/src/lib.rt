@@ -7,7 +7,7 @@ mod reader;
 mod syntax;
 mod writer;
 
-pub use laws::read_again;
+pub use laws::same_trees_have_the_same_words;
 pub use reader::read_sample;
 pub use syntax::{Expr, Program, Statement};
 pub use writer::write_sample;

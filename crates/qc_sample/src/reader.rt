@@ -7,11 +7,15 @@ ghost use Rattle.qc_text.specs.Reading.{reads, first, next_in};
 ghost use Rattle.qc_text.specs.Grammar.{nonterminal, onto};
 ghost use Rattle.qc_text.specs.Clean.{text};
 ghost use Rattle.qc_text.specs.Answer.{Answers};
-ghost use Rattle.qc_sample.specs.Sample.{sample, reserved, any_statement, type_of, simple, statement, statements, program};
+ghost use Rattle.qc_text.specs.TextAnswer.{AnswersText};
+ghost use Rattle.qc_sample.specs.Sample.{sample, reserved, any_statement, type_of, simple, statement, statements};
+ghost use Rattle.qc_sample.specs.Sample.{program};
 
 use crate::expressions::{read_any_expr, read_arguments, read_exprs};
 use crate::syntax::{Program, Statement};
-use qc_text::{Cursor, Ident, Kind, ReadError, Stop, Token, begin, settle};
+use qc_text::{
+    Cursor, Ident, Kind, ReadError, ReadTextEnd, Stop, Token, answer, begin, scan, settle,
+};
 use sqlite_items::Items;
 use std::alloc::Global;
 
@@ -131,8 +135,8 @@ fn read_whole(alloc: Global, cursor: &mut Cursor<'_>) -> Result<Program, Stop>
     Ok(program)
 }
 
-/// The program that the tokens of a source spell.
-pub fn read_sample(alloc: Global, source: &[u8], tokens: &[Token]) -> Result<Program, ReadError>
+/// The tree that the tokens of a source spell.
+fn read_tokens(alloc: Global, source: &[u8], tokens: &[Token]) -> Result<Program, ReadError>
     requires inside { InSource (length source.now) tokens.now }
     requires ended { IsEnded tokens.now }
     ensures { Answers sample program (lexemes reserved source.now tokens.now) result }
@@ -141,4 +145,14 @@ pub fn read_sample(alloc: Global, source: &[u8], tokens: &[Token]) -> Result<Pro
     let given = cursor.left();
     let read = read_whole(alloc, &mut cursor);
     settle(read, deep, given, cursor.left())
+}
+
+/// The tree of a program's text, with numbers of tokens counted from 0. A text has at most 200 open brackets.
+pub fn read_sample(alloc: Global, bytes: &[u8]) -> Result<Program, ReadTextEnd>
+    ensures { AnswersText sample program reserved bytes.now result }
+{
+    match scan(alloc, bytes) {
+        Ok(tokens) => answer(read_tokens(alloc, bytes, tokens.as_slice())),
+        Err(end) => Err(end),
+    }
 }

@@ -1,10 +1,11 @@
-use qc_text::Ident;
+//! The syntax tree of a program.
+use qc_text::{Ident, Number};
 use sqlite_items::{Boxed, Items};
 
-/// An expression. A number keeps its text.
+/// An expression.
 #[derive(Debug, Drop)]
 pub enum Expr {
-    Number { text: Ident },
+    Number { value: Number },
     Name { name: Ident },
     Not { token: usize, arg: Boxed<Expr> },
     Call { name: Ident, args: Items<Expr> },

@@ -1,84 +1,96 @@
 //! The printer: each word of a tree, and a blank after it.
-ghost use Rattle.std.specs.Prelude.{◌≡◌, ◌++◌, ◌∷◌, [], ◌<◌, length, drop, List, OnOk, IfOk};
+ghost use Rattle.std.specs.Prelude.{◌≡◌, ◌++◌, ◌∷◌, [], ◌<◌, length, drop, codes, ℕ, List, Ok, OnOk, IfOk};
 ghost use Rattle.std.specs.List.{flat_map};
 ghost use Rattle.qc_text.specs.Lexeme.{Lexeme};
 ghost use Rattle.qc_text.specs.Language.{IsPhrase};
-ghost use Rattle.qc_text.specs.Words.{spellings};
-ghost use Rattle.qc_sample.specs.Sample.{sample, program};
-ghost use Rattle.qc_sample.specs.Printed.{expr_words, exprs_words, comma_words, type_words, statement_words, program_words, printed};
+ghost use Rattle.qc_text.specs.TextAnswer.{IsTextAnswer};
+ghost use Rattle.qc_text.specs.Spaced.{spaced};
+ghost use Rattle.qc_text.specs.Spelled.{spellings};
+ghost use Rattle.qc_text.specs.Printing.{as_text, IsTextOf};
+ghost use Rattle.qc_sample.specs.Sample.{sample, program, reserved};
+ghost use Rattle.qc_sample.specs.Printed.{expr_words, exprs_words, comma_words, type_words, statement_words};
+ghost use Rattle.qc_sample.specs.Printed.{program_words};
 
 use crate::syntax::{Expr, Program, Statement};
-use qc_text::Ident;
+use qc_text::{
+    Ident, one_end, printed_tokens_are_tokens, put, put_number, texts_of_their_kinds,
+    words_are_tokens,
+};
 use std::alloc::{AllocError, Global};
-
-fn put(out: &mut Vec<u8>, word: &[u8]) -> Result<(), AllocError>
-    ensures { OnOk result (out.new.items ≡ out.old.items ++ printed (word.now ∷ [])) }
-{
-    out.extend_from_slice(word)?;
-    out.push(b' ')?;
-    Ok(())
-}
 
 #[tactic(auto, using(crate::proofs::Writing::writing))]
 #[cycle(expressions)]
-fn write_expr(out: &mut Vec<u8>, expr: &Expr) -> Result<(), AllocError>
-    ensures { OnOk result (out.new.items ≡ out.old.items ++ printed (expr_words expr.now)) }
+fn write_expr(alloc: Global, out: &mut Vec<u8>, expr: &Expr) -> Result<(), AllocError>
+    ensures { OnOk result (out.new.items ≡ out.old.items ++ spaced (expr_words expr.now)) }
 {
     match expr {
-        Expr::Number { text } => put(out, text.text.as_slice()),
+        Expr::Number { value } => put_number(alloc, out, value),
         Expr::Name { name } => put(out, name.text.as_slice()),
         Expr::Not { token: _, arg } => {
             put(out, b"not")?;
-            write_expr(out, arg.get())
+            write_expr(alloc, out, arg.get())
         }
-        Expr::Call { name, args } => {
-            put(out, name.text.as_slice())?;
-            put(out, b"(")?;
-            write_exprs(out, args.as_slice())?;
-            put(out, b")")
-        }
+        Expr::Call { name, args } => write_call(alloc, out, name, args.as_slice()),
         Expr::Index { name, at } => {
             put(out, name.text.as_slice())?;
             put(out, b"[")?;
-            write_expr(out, at.get())?;
+            write_expr(alloc, out, at.get())?;
             put(out, b"]")
         }
         Expr::Group { inner } => {
             put(out, b"(")?;
-            write_expr(out, inner.get())?;
+            write_expr(alloc, out, inner.get())?;
             put(out, b")")
         }
     }
 }
 
+/// A name with its arguments.
+#[tactic(auto, using(crate::proofs::Writing::writing))]
 #[cycle(expressions)]
-fn write_exprs(out: &mut Vec<u8>, exprs: &[Expr]) -> Result<(), AllocError>
-    ensures { OnOk result (out.new.items ≡ out.old.items ++ printed (exprs_words exprs.now)) }
+fn write_call(
+    alloc: Global,
+    out: &mut Vec<u8>,
+    name: &Ident,
+    args: &[Expr],
+) -> Result<(), AllocError>
+    ensures { OnOk result (out.new.items ≡ out.old.items
+        ++ spaced (name.now.text ∷ codes "(" ∷ (exprs_words args.now ++ codes ")" ∷ []))) }
+{
+    put(out, name.text.as_slice())?;
+    put(out, b"(")?;
+    write_exprs(alloc, out, args)?;
+    put(out, b")")
+}
+
+#[cycle(expressions)]
+fn write_exprs(alloc: Global, out: &mut Vec<u8>, exprs: &[Expr]) -> Result<(), AllocError>
+    ensures { OnOk result (out.new.items ≡ out.old.items ++ spaced (exprs_words exprs.now)) }
 {
     if exprs.is_empty() {
         return Ok(());
     }
-    write_expr(out, &exprs[0])?;
-    write_more(out, exprs)
+    write_expr(alloc, out, &exprs[0])?;
+    write_more(alloc, out, exprs)
 }
 
 /// The expressions after the first, each with a comma before it.
 #[tactic(auto, unfolding(crate::specs::Printed::comma_words), using(crate::proofs::Writing::writing))]
 #[cycle(expressions)]
-fn write_more(out: &mut Vec<u8>, exprs: &[Expr]) -> Result<(), AllocError>
+fn write_more(alloc: Global, out: &mut Vec<u8>, exprs: &[Expr]) -> Result<(), AllocError>
     requires { 0 < length exprs.now }
-    ensures { OnOk result (out.new.items ≡ out.old.items ++ printed (flat_map comma_words (drop 1 exprs.now))) }
+    ensures { OnOk result (out.new.items ≡ out.old.items ++ spaced (flat_map comma_words (drop 1 exprs.now))) }
 {
     for place in 1..exprs.len() {
         put(out, b",")?;
-        write_expr(out, &exprs[place])?;
+        write_expr(alloc, out, &exprs[place])?;
     }
     Ok(())
 }
 
 #[tactic(auto, using(crate::proofs::Writing::writing))]
 fn write_type(out: &mut Vec<u8>, type_of: &Option<Ident>) -> Result<(), AllocError>
-    ensures { OnOk result (out.new.items ≡ out.old.items ++ printed (type_words type_of.now)) }
+    ensures { OnOk result (out.new.items ≡ out.old.items ++ spaced (type_words type_of.now)) }
 {
     match type_of {
         None => Ok(()),
@@ -91,8 +103,12 @@ fn write_type(out: &mut Vec<u8>, type_of: &Option<Ident>) -> Result<(), AllocErr
 
 #[tactic(auto, using(crate::proofs::Writing::writing))]
 #[cycle(statements)]
-fn write_statement(out: &mut Vec<u8>, statement: &Statement) -> Result<(), AllocError>
-    ensures { OnOk result (out.new.items ≡ out.old.items ++ printed (statement_words statement.now)) }
+fn write_statement(
+    alloc: Global,
+    out: &mut Vec<u8>,
+    statement: &Statement,
+) -> Result<(), AllocError>
+    ensures { OnOk result (out.new.items ≡ out.old.items ++ spaced (statement_words statement.now)) }
 {
     match statement {
         Statement::Let {
@@ -104,30 +120,27 @@ fn write_statement(out: &mut Vec<u8>, statement: &Statement) -> Result<(), Alloc
             put(out, name.text.as_slice())?;
             write_type(out, type_of)?;
             put(out, b"=")?;
-            write_expr(out, value)?;
+            write_expr(alloc, out, value)?;
             put(out, b";")
         }
         Statement::Print { values } => {
             put(out, b"print")?;
-            write_exprs(out, values.as_slice())?;
+            write_exprs(alloc, out, values.as_slice())?;
             put(out, b";")
         }
         Statement::Block { body } => {
             put(out, b"{")?;
-            write_statements(out, body.as_slice())?;
+            write_statements(alloc, out, body.as_slice())?;
             put(out, b"}")
         }
         Statement::Set { name, value } => {
             put(out, name.text.as_slice())?;
             put(out, b"=")?;
-            write_expr(out, value)?;
+            write_expr(alloc, out, value)?;
             put(out, b";")
         }
         Statement::Do { name, args } => {
-            put(out, name.text.as_slice())?;
-            put(out, b"(")?;
-            write_exprs(out, args.as_slice())?;
-            put(out, b")")?;
+            write_call(alloc, out, name, args.as_slice())?;
             put(out, b";")
         }
     }
@@ -135,30 +148,43 @@ fn write_statement(out: &mut Vec<u8>, statement: &Statement) -> Result<(), Alloc
 
 #[tactic(auto, using(crate::proofs::Writing::writing))]
 #[cycle(statements)]
-fn write_statements(out: &mut Vec<u8>, statements: &[Statement]) -> Result<(), AllocError>
-    ensures { OnOk result (out.new.items ≡ out.old.items ++ printed (flat_map statement_words statements.now)) }
+fn write_statements(
+    alloc: Global,
+    out: &mut Vec<u8>,
+    statements: &[Statement],
+) -> Result<(), AllocError>
+    ensures { OnOk result (out.new.items ≡ out.old.items ++ spaced (flat_map statement_words statements.now)) }
 {
     for statement in statements {
-        write_statement(out, statement)?;
+        write_statement(alloc, out, statement)?;
     }
     Ok(())
 }
 
 #[tactic(auto, using(crate::proofs::Writing::writing))]
-fn write_program(out: &mut Vec<u8>, p: &Program) -> Result<(), AllocError>
-    ensures { OnOk result (out.new.items ≡ out.old.items ++ printed (program_words p.now)) }
+fn write_program(alloc: Global, out: &mut Vec<u8>, p: &Program) -> Result<(), AllocError>
+    ensures { OnOk result (out.new.items ≡ out.old.items ++ spaced (program_words p.now)) }
 {
     put(out, b"program")?;
     put(out, p.name.text.as_slice())?;
     put(out, b";")?;
-    write_statements(out, p.body.as_slice())
+    write_statements(alloc, out, p.body.as_slice())
 }
 
-/// A text of the program: the words of each text that has this tree, with a blank after each.
+/// A text of the tree: the words of each text that has this tree, numbers in decimal, with a blank after each. Where a
+/// file has this tree, the text is read again as the same tree but for the numbers of tokens.
 pub fn write_sample(alloc: Global, p: &Program) -> Result<Vec<u8>, AllocError>
-    ensures { IfOk result (λ out. (tokens : List Lexeme) → IsPhrase sample program tokens p.now → out.items ≡ printed (spellings tokens)) }
+    ensures words { IfOk result (λ out. (tokens : List Lexeme) → IsPhrase sample program tokens p.now
+        → out.items ≡ spaced (spellings as_text tokens)) }
+    ensures again { IfOk result (λ out. (bytes : List ℕ)
+        → IsTextAnswer sample program reserved bytes (Ok p.now)
+        → IsTextOf as_text sample program reserved p.now out.items) }
 {
+    words_are_tokens();
+    texts_of_their_kinds();
+    one_end();
+    printed_tokens_are_tokens();
     let mut out = Vec::new(alloc);
-    write_program(&mut out, p)?;
+    write_program(alloc, &mut out, p)?;
     Ok(out)
 }

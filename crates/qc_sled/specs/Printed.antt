@@ -1,18 +1,14 @@
 -- What is printed for a tree, and that each text of the tree spells it.
-use Rattle.std.specs.Prelude.{ℕ, ◌^◌, min, List, [], ◌∷◌, ◌++◌, map, Option, None, Some, Ok, codes, ◌≡◌}
-use Rattle.std.specs.Fmt.{decimal}
+use Rattle.std.specs.Prelude.{ℕ, List, [], ◌∷◌, ◌++◌, map, Option, None, Some, codes, ◌≡◌}
 use Rattle.std.specs.List.{flat_map}
-use Rattle.std.proofs.Common.{refl, ap, sym, ◌∙◌, append_assoc}
+use Rattle.std.proofs.Common.{refl, ap, sym, ◌∙◌}
 use Rattle.qc_text.specs.declared.cursor.Ident.{Ident}
-use Rattle.qc_text.specs.declared.token.Kind.{Kind}
-use Rattle.qc_text.specs.declared.token.Kind.TheVariants as kind
-use Rattle.qc_text.specs.Numerals.{number_in, number_of}
 use Rattle.qc_text.specs.Lexeme.{Lexeme, ident_of}
 use Rattle.qc_text.specs.Grammar.{Grammar}
 use Rattle.qc_text.specs.Language.{IsPhrase}
 use Rattle.qc_text.specs.Spelled as spell
-use Rattle.qc_text.specs.TextAnswer.{IsTextAnswer}
-use Rattle.qc_text.specs.declared.number.Number.{Number}
+use Rattle.qc_text.specs.Spaced.{Words, joined, after_separators}
+use Rattle.qc_text.specs.Printing.{as_text, digits}
 use Rattle.qc_sled.specs.declared.syntax.Field.{Field}
 use Rattle.qc_sled.specs.declared.syntax.Reach.{Reach}
 use Rattle.qc_sled.specs.declared.syntax.Reach.TheVariants.{Relative, Absolute}
@@ -28,32 +24,12 @@ use Rattle.qc_sled.specs.declared.syntax.RawCoding.{RawCoding}
 use Rattle.qc_sled.specs.Sled as grammar
 use Rattle.qc_sled.specs.Sled.{Rule, TreeOf, any_pattern, sled, coding, reserved}
 
-abbrev pub Words : Type 0
-Words = List (List ℕ)
-
--- A number is spelled by the decimal digits of its value, another token by its text.
-abbrev pub as_text : Kind → List ℕ → List ℕ
-as_text kind.Number text = decimal (min (number_of text) (2 ^ 64))
-as_text kind.Name text = text
-as_text kind.Prim text = text
-as_text kind.Str text = text
-as_text kind.Punct text = text
-as_text kind.End text = text
-
-abbrev pub digits : Number → List ℕ
-digits n = decimal n.value
-
 -- the words of a value
 unfoldable pub value_words : Value → Words
 value_words (value_of.Number value) = digits value ∷ []
 value_words (value_of.Operand name) = name.text ∷ []
 value_words (value_of.Bits name high low) =
     name.text ∷ codes "{" ∷ digits high ∷ codes ".." ∷ digits low ∷ codes "}" ∷ []
-
--- with a separator between them
-abbrev pub joined : List ℕ → List Words → Words
-joined separator [] = []
-joined separator (x ∷ xs) = x ++ flat_map (λ y. separator ∷ y) xs
 
 abbrev pub pattern_layer : Pattern-F Words → Words
 pattern_layer (Name name) = name.text ∷ []
@@ -76,16 +52,13 @@ abbrev pub parts_words : List ℕ → List Pattern → Words
 parts_words separator [] = []
 parts_words separator (x ∷ xs) = pattern_words x ++ flat_map (next_words separator) xs
 
-after_separators : (separator : List ℕ) (xs : List Pattern)
-    → flat_map (λ y. separator ∷ y) (map pattern_words xs) ≡ flat_map (next_words separator) xs
-unfolding next_words
-after_separators separator [] = refl
-after_separators separator (x ∷ xs) = ap (λ ws. next_words separator x ++ ws) (after_separators separator xs)
-
 joined_words : (separator : List ℕ) (xs : List Pattern)
     → joined separator (map pattern_words xs) ≡ parts_words separator xs
+unfolding next_words
 joined_words separator [] = refl
-joined_words separator (x ∷ xs) = ap (λ ws. pattern_words x ++ ws) (after_separators separator xs)
+joined_words separator (x ∷ xs) =
+    ap (λ ws. pattern_words x ++ ws)
+    (after_separators separator pattern_words (next_words separator) (λ y. refl) xs)
 
 pub pattern_words-name : (name : Ident) → pattern_words (part.Name name) ≡ name.text ∷ []
 unfolding pattern_words
@@ -175,7 +148,7 @@ abbrev Spells : {A : Type 0} → Grammar Rule TreeOf A → (A → Words) → Typ
 Spells g words_of = spell.EachSpells as_text rule_words g (λ words x. words ≡ words_of x)
 
 value_spells : Spells grammar.value value_words
-unfolding grammar.value grammar.bits grammar.number value_words
+unfolding grammar.value grammar.bits value_words
 value_spells = ((λ k. refl), (λ n. ((λ t h u l v. refl), refl)))
 
 atom_spells : Spells grammar.atom pattern_words
@@ -217,7 +190,7 @@ pattern_spells =
     ))
 
 field_spells : Spells grammar.field field_words
-unfolding grammar.field grammar.number field_words
+unfolding grammar.field field_words
 field_spells = λ n h t l. refl
 
 fields_spells : Spells grammar.fields fields_words
@@ -229,7 +202,7 @@ fields_spells = λ t. spell.spelled as_text rule_words grammar.field field_words
 ))
 
 param_spells : Spells grammar.param param_words
-unfolding grammar.param grammar.reach_of grammar.reach grammar.number param_words
+unfolding grammar.param grammar.reach_of grammar.reach param_words
 param_spells = λ n. ((λ t. ((λ u k. refl), (λ u k. refl))), refl)
 
 params_spells : Spells grammar.params params_words
@@ -244,7 +217,7 @@ params_spells = λ t. (
 )
 
 item_spells : Spells grammar.item item_words
-unfolding grammar.item grammar.number item_words
+unfolding grammar.item item_words
 item_spells = (
   (λ t n k. spell.spelled as_text rule_words grammar.fields fields_words fields_spells _ (λ fs. refl)),
   (
@@ -263,18 +236,3 @@ pub coding_texts : (tokens : List Lexeme) (raw : RawCoding)
 coding_texts tokens raw phrase =
     spell.texts_spell as_text sled rule_words (elim [ any_pattern ↦ pattern_spells ])
     coding coding_words coding_spells tokens raw phrase
-
--- each word, and a blank after it
-abbrev pub printed : Words → List ℕ
-printed words = flat_map (λ word. word ++ 32 ∷ []) words
-
-pub printed-append : (xs ys : Words) → printed (xs ++ ys) ≡ printed xs ++ printed ys
-printed-append [] ys = refl
-printed-append (x ∷ xs) ys =
-    ap (λ bytes. (x ++ 32 ∷ []) ++ bytes) (printed-append xs ys)
-    ∙ sym (append_assoc (x ++ 32 ∷ []) (printed xs) (printed ys))
-
--- The file is a text of the grammar. Its tree is this one but for the numbers of tokens: it has the same words.
-abbrev pub IsTextOf : RawCoding → List ℕ → Type 0
-IsTextOf raw bytes = (other : RawCoding) × IsTextAnswer sled coding reserved bytes (Ok other)
-    × (coding_words other ≡ coding_words raw)

@@ -1,14 +1,11 @@
 -- The grammar of coding texts, rule by rule. Words in quotes are reserved, and no names.
-use Rattle.std.specs.Prelude.{ℕ, ◌^◌, min, true, List, [], ◌∷◌, Option, codes, ◌≡◌, refl}
+use Rattle.std.specs.Prelude.{ℕ, true, List, [], ◌∷◌, Option, codes, ◌≡◌, refl}
 use Rattle.qc_text.specs.declared.cursor.Ident.{Ident}
-use Rattle.qc_text.specs.declared.token.Kind.TheVariants as kind
 use Rattle.qc_text.specs.Lexeme.{Class, Word, Lexeme}
-use Rattle.qc_text.specs.Numerals.{number_in}
-use Rattle.qc_text.specs.Grammar.{Grammar, nonterminal, empty, repetition, ◌<+>◌, ◌*>◌, ◌<*◌, ◌<|>◌, ◌<$>◌, word, name, ident, optional, Syntax}
+use Rattle.qc_text.specs.Grammar.{Grammar, nonterminal, empty, repetition, ◌<+>◌, ◌*>◌, ◌<*◌, ◌<|>◌, ◌<$>◌, word, name, number, optional, Syntax}
 use Rattle.qc_text.specs.Reading.{reads}
 use Rattle.qc_text.specs.Clean.{IsReadable, is_clean}
 use Rattle.qc_text.specs.Law.Fuel.{unroll}
-use Rattle.qc_text.specs.declared.number.Number.{Number}
 use Rattle.qc_sled.specs.declared.syntax.Field.{Field}
 use Rattle.qc_sled.specs.declared.syntax.Reach.{Reach}
 use Rattle.qc_sled.specs.declared.syntax.Reach.TheVariants.{Relative, Absolute}
@@ -33,10 +30,6 @@ pub data Rule : Type 0 where
 
 abbrev pub TreeOf : Rule → Type 0
 TreeOf any_pattern = Pattern
-
--- number, with its value
-unfoldable pub number : Grammar Rule TreeOf Number
-number = number_in <$> ident kind.Number
 
 -- field = name number ":" number
 unfoldable pub field : Grammar Rule TreeOf Field
@@ -166,7 +159,7 @@ abbrev pub sled : Syntax Rule TreeOf
 sled = record { rule = rule; goes_on = goes_on }
 
 pub sled_is_readable : IsReadable sled coding
-unfolding number field next_field some_fields fields reach reach_of param next_param some_params params bits value
+unfolding field next_field some_fields fields reach reach_of param next_param some_params params bits value
     after_atom atom next_atom atoms conjunction next_conjunction conjunctions sequence next_sequence sequences pattern
     item items coding
 sled_is_readable = record { rules = record { depth = 1; rules = elim [ any_pattern ↦ refl ] }; start = refl }
@@ -177,26 +170,26 @@ pattern_unrolls = unroll sled sled_is_readable.rules any_pattern
 
 -- what the loops repeat can be repeated
 pub next_field_repeats : is_clean sled (repetition next_field) ≡ true
-unfolding number field next_field
+unfolding field next_field
 next_field_repeats = refl
 
 pub next_param_repeats : is_clean sled (repetition next_param) ≡ true
-unfolding number reach reach_of param next_param
+unfolding reach reach_of param next_param
 next_param_repeats = refl
 
 pub next_atom_repeats : is_clean sled (repetition next_atom) ≡ true
-unfolding number bits value after_atom atom next_atom
+unfolding bits value after_atom atom next_atom
 next_atom_repeats = refl
 
 pub next_conjunction_repeats : is_clean sled (repetition next_conjunction) ≡ true
-unfolding number bits value after_atom atom next_atom atoms conjunction next_conjunction
+unfolding bits value after_atom atom next_atom atoms conjunction next_conjunction
 next_conjunction_repeats = refl
 
 pub next_sequence_repeats : is_clean sled (repetition next_sequence) ≡ true
-unfolding number bits value after_atom atom next_atom atoms conjunction next_conjunction conjunctions sequence
+unfolding bits value after_atom atom next_atom atoms conjunction next_conjunction conjunctions sequence
     next_sequence
 next_sequence_repeats = refl
 
 pub item_repeats : is_clean sled (repetition item) ≡ true
-unfolding number field next_field some_fields fields reach reach_of param next_param some_params params item
+unfolding field next_field some_fields fields reach reach_of param next_param some_params params item
 item_repeats = refl

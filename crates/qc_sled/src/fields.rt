@@ -4,7 +4,6 @@ ghost use Rattle.qc_text.specs.Gives.{Gives};
 ghost use Rattle.qc_text.specs.Reading.{reads};
 ghost use Rattle.qc_sled.specs.Sled.{sled, field, next_field, some_fields, fields};
 
-use crate::number::read_number;
 use crate::syntax::Field;
 use qc_text::{Cursor, Kind, Stop};
 use sqlite_items::Items;
@@ -15,9 +14,9 @@ fn read_field(alloc: Global, cursor: &mut Cursor<'_>) -> Result<Field, Stop>
     ensures { Gives result cursor.old cursor.new (reads sled field) }
 {
     let name = cursor.ident(alloc, Kind::Name)?;
-    let high = read_number(alloc, cursor)?;
+    let high = cursor.number()?;
     cursor.word(b":")?;
-    let low = read_number(alloc, cursor)?;
+    let low = cursor.number()?;
     Ok(Field { name, high, low })
 }
 

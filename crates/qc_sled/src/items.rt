@@ -6,7 +6,6 @@ ghost use Rattle.qc_text.specs.Grammar.{nonterminal};
 ghost use Rattle.qc_sled.specs.Sled.{sled, item, items};
 
 use crate::fields::read_fields;
-use crate::number::read_number;
 use crate::params::read_params;
 use crate::patterns::read_any_pattern;
 use crate::syntax::Item;
@@ -28,7 +27,7 @@ fn read_item(alloc: Global, cursor: &mut Cursor<'_>) -> Result<Item, Stop>
     if cursor.is_word(b"fields") {
         let token = cursor.word(b"fields")?;
         let name = cursor.ident(alloc, Kind::Name)?;
-        let bits = read_number(alloc, cursor)?;
+        let bits = cursor.number()?;
         let fields = read_fields(alloc, cursor)?;
         Ok(Item::Fields {
             token,

@@ -4,34 +4,33 @@ ghost use Rattle.qc_text.specs.Gives.{Gives};
 ghost use Rattle.qc_text.specs.Reading.{reads};
 ghost use Rattle.qc_sled.specs.Sled.{sled, reach, reach_of, param, next_param, some_params, params};
 
-use crate::number::read_number;
 use crate::syntax::{Param, Reach};
 use qc_text::{Cursor, Kind, Stop};
 use sqlite_items::Items;
 use std::alloc::Global;
 
 #[tactic(auto, unfolding(crate::specs::Sled::reach))]
-fn read_reach(alloc: Global, cursor: &mut Cursor<'_>) -> Result<Reach, Stop>
+fn read_reach(cursor: &mut Cursor<'_>) -> Result<Reach, Stop>
     ensures { Gives result cursor.old cursor.new (reads sled reach) }
 {
     if cursor.is_word(b"rel") {
         let token = cursor.word(b"rel")?;
-        let bits = read_number(alloc, cursor)?;
+        let bits = cursor.number()?;
         Ok(Reach::Relative { token, bits })
     } else {
         let token = cursor.word(b"abs")?;
-        let bits = read_number(alloc, cursor)?;
+        let bits = cursor.number()?;
         Ok(Reach::Absolute { token, bits })
     }
 }
 
 #[tactic(auto, unfolding(crate::specs::Sled::reach_of))]
-fn read_reach_of(alloc: Global, cursor: &mut Cursor<'_>) -> Result<Option<Reach>, Stop>
+fn read_reach_of(cursor: &mut Cursor<'_>) -> Result<Option<Reach>, Stop>
     ensures { Gives result cursor.old cursor.new (reads sled reach_of) }
 {
     if cursor.is_word(b":") {
         cursor.word(b":")?;
-        let reach = read_reach(alloc, cursor)?;
+        let reach = read_reach(cursor)?;
         Ok(Some(reach))
     } else {
         Ok(None)
@@ -43,7 +42,7 @@ fn read_param(alloc: Global, cursor: &mut Cursor<'_>) -> Result<Param, Stop>
     ensures { Gives result cursor.old cursor.new (reads sled param) }
 {
     let name = cursor.ident(alloc, Kind::Name)?;
-    let reach = read_reach_of(alloc, cursor)?;
+    let reach = read_reach_of(cursor)?;
     Ok(Param { name, reach })
 }
 

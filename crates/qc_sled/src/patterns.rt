@@ -7,21 +7,20 @@ ghost use Rattle.qc_sled.specs.Sled.{sled, any_pattern, bits, value, after_atom,
 ghost use Rattle.qc_sled.specs.Sled.{conjunction, next_conjunction, conjunctions};
 ghost use Rattle.qc_sled.specs.Sled.{sequence, next_sequence, sequences, pattern};
 
-use crate::number::read_number;
 use crate::syntax::{Pattern, Value};
 use qc_text::{Cursor, Ident, Kind, Stop};
 use sqlite_items::{Boxed, Items};
 use std::alloc::Global;
 
 #[tactic(auto, unfolding(crate::specs::Sled::bits))]
-fn read_bits(alloc: Global, cursor: &mut Cursor<'_>, name: Ident) -> Result<Value, Stop>
+fn read_bits(cursor: &mut Cursor<'_>, name: Ident) -> Result<Value, Stop>
     ensures { Gives result cursor.old cursor.new (reads sled (onto name bits)) }
 {
     if cursor.is_word(b"{") {
         cursor.word(b"{")?;
-        let high = read_number(alloc, cursor)?;
+        let high = cursor.number()?;
         cursor.word(b"..")?;
-        let low = read_number(alloc, cursor)?;
+        let low = cursor.number()?;
         cursor.word(b"}")?;
         Ok(Value::Bits { name, high, low })
     } else {
@@ -29,16 +28,16 @@ fn read_bits(alloc: Global, cursor: &mut Cursor<'_>, name: Ident) -> Result<Valu
     }
 }
 
-#[tactic(auto, unfolding(crate::specs::Sled::value, crate::specs::Sled::number))]
+#[tactic(auto, unfolding(crate::specs::Sled::value))]
 fn read_value(alloc: Global, cursor: &mut Cursor<'_>) -> Result<Value, Stop>
     ensures { Gives result cursor.old cursor.new (reads sled value) }
 {
     if cursor.is_any(Kind::Number) {
-        let value = read_number(alloc, cursor)?;
+        let value = cursor.number()?;
         Ok(Value::Number { value })
     } else {
         let name = cursor.ident(alloc, Kind::Name)?;
-        read_bits(alloc, cursor, name)
+        read_bits(cursor, name)
     }
 }
 

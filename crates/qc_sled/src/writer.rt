@@ -1,38 +1,27 @@
 //! The printer: each word of a tree, and a blank after it.
-ghost use Rattle.std.specs.Prelude.{◌≡◌, ◌++◌, ◌∷◌, [], ◌<◌, length, drop, ℕ, List, Ok, OnOk, IfOk};
+ghost use Rattle.std.specs.Prelude.{◌≡◌, ◌++◌, ◌<◌, length, drop, ℕ, List, Ok, OnOk, IfOk};
 ghost use Rattle.std.specs.List.{flat_map};
 ghost use Rattle.qc_text.specs.Lexeme.{Lexeme};
 ghost use Rattle.qc_text.specs.Language.{IsPhrase};
 ghost use Rattle.qc_text.specs.TextAnswer.{IsTextAnswer};
+ghost use Rattle.qc_text.specs.Spaced.{spaced};
 ghost use Rattle.qc_text.specs.Spelled.{spellings};
+ghost use Rattle.qc_text.specs.Printing.{as_text, IsTextOf};
 ghost use Rattle.qc_sled.specs.Sled.{sled, coding, reserved};
-ghost use Rattle.qc_sled.specs.Printed.{as_text, digits, value_words, pattern_words, next_words, parts_words};
+ghost use Rattle.qc_sled.specs.Printed.{value_words, pattern_words, next_words, parts_words};
 ghost use Rattle.qc_sled.specs.Printed.{field_words, comma_field_words, some_fields_words, fields_words};
 ghost use Rattle.qc_sled.specs.Printed.{reach_words, param_words, comma_param_words, some_params_words, params_words};
-ghost use Rattle.qc_sled.specs.Printed.{item_words, coding_words, printed, IsTextOf};
+ghost use Rattle.qc_sled.specs.Printed.{item_words, coding_words};
 
 use crate::syntax::{Field, Item, Param, Pattern, RawCoding, Reach, Value};
-use qc_text::{Number, one_end, texts_of_their_kinds, words_are_tokens};
+use qc_text::{
+    one_end, printed_tokens_are_tokens, put, put_number, texts_of_their_kinds, words_are_tokens,
+};
 use std::alloc::{AllocError, Global};
-
-fn put(out: &mut Vec<u8>, word: &[u8]) -> Result<(), AllocError>
-    ensures { OnOk result (out.new.items ≡ out.old.items ++ printed (word.now ∷ [])) }
-{
-    out.extend_from_slice(word)?;
-    out.push(b' ')?;
-    Ok(())
-}
-
-fn put_number(alloc: Global, out: &mut Vec<u8>, number: &Number) -> Result<(), AllocError>
-    ensures { OnOk result (out.new.items ≡ out.old.items ++ printed (digits number.now ∷ [])) }
-{
-    let digits = format!(in alloc; "{}", number.value)?;
-    put(out, digits.as_bytes())
-}
 
 #[tactic(auto, unfolding(crate::specs::Printed::value_words), using(crate::proofs::Writing::writing))]
 fn write_value(alloc: Global, out: &mut Vec<u8>, value: &Value) -> Result<(), AllocError>
-    ensures { OnOk result (out.new.items ≡ out.old.items ++ printed (value_words value.now)) }
+    ensures { OnOk result (out.new.items ≡ out.old.items ++ spaced (value_words value.now)) }
 {
     match value {
         Value::Number { value } => put_number(alloc, out, value),
@@ -51,7 +40,7 @@ fn write_value(alloc: Global, out: &mut Vec<u8>, value: &Value) -> Result<(), Al
 #[tactic(auto, using(crate::proofs::Writing::writing))]
 #[cycle(patterns)]
 fn write_pattern(alloc: Global, out: &mut Vec<u8>, pattern: &Pattern) -> Result<(), AllocError>
-    ensures { OnOk result (out.new.items ≡ out.old.items ++ printed (pattern_words pattern.now)) }
+    ensures { OnOk result (out.new.items ≡ out.old.items ++ spaced (pattern_words pattern.now)) }
 {
     match pattern {
         Pattern::Name { name } => put(out, name.text.as_slice()),
@@ -80,7 +69,7 @@ fn write_parts(
     separator: &[u8],
     parts: &[Pattern],
 ) -> Result<(), AllocError>
-    ensures { OnOk result (out.new.items ≡ out.old.items ++ printed (parts_words separator.now parts.now)) }
+    ensures { OnOk result (out.new.items ≡ out.old.items ++ spaced (parts_words separator.now parts.now)) }
 {
     if parts.is_empty() {
         return Ok(());
@@ -100,7 +89,7 @@ fn write_more_parts(
 ) -> Result<(), AllocError>
     requires { 0 < length parts.now }
     ensures { OnOk result
-        (out.new.items ≡ out.old.items ++ printed (flat_map (next_words separator.now) (drop 1 parts.now))) }
+        (out.new.items ≡ out.old.items ++ spaced (flat_map (next_words separator.now) (drop 1 parts.now))) }
 {
     for place in 1..parts.len() {
         put(out, separator)?;
@@ -111,7 +100,7 @@ fn write_more_parts(
 
 #[tactic(auto, unfolding(crate::specs::Printed::field_words), using(crate::proofs::Writing::writing))]
 fn write_field(alloc: Global, out: &mut Vec<u8>, field: &Field) -> Result<(), AllocError>
-    ensures { OnOk result (out.new.items ≡ out.old.items ++ printed (field_words field.now)) }
+    ensures { OnOk result (out.new.items ≡ out.old.items ++ spaced (field_words field.now)) }
 {
     put(out, field.name.text.as_slice())?;
     put_number(alloc, out, &field.high)?;
@@ -123,7 +112,7 @@ fn write_field(alloc: Global, out: &mut Vec<u8>, field: &Field) -> Result<(), Al
 #[tactic(auto, unfolding(crate::specs::Printed::comma_field_words), using(crate::proofs::Writing::writing))]
 fn write_more_fields(alloc: Global, out: &mut Vec<u8>, fields: &[Field]) -> Result<(), AllocError>
     requires { 0 < length fields.now }
-    ensures { OnOk result (out.new.items ≡ out.old.items ++ printed (flat_map comma_field_words (drop 1 fields.now))) }
+    ensures { OnOk result (out.new.items ≡ out.old.items ++ spaced (flat_map comma_field_words (drop 1 fields.now))) }
 {
     for place in 1..fields.len() {
         put(out, b",")?;
@@ -134,7 +123,7 @@ fn write_more_fields(alloc: Global, out: &mut Vec<u8>, fields: &[Field]) -> Resu
 
 #[tactic(auto, using(crate::proofs::Writing::writing))]
 fn write_some_fields(alloc: Global, out: &mut Vec<u8>, fields: &[Field]) -> Result<(), AllocError>
-    ensures { OnOk result (out.new.items ≡ out.old.items ++ printed (some_fields_words fields.now)) }
+    ensures { OnOk result (out.new.items ≡ out.old.items ++ spaced (some_fields_words fields.now)) }
 {
     if fields.is_empty() {
         return Ok(());
@@ -145,7 +134,7 @@ fn write_some_fields(alloc: Global, out: &mut Vec<u8>, fields: &[Field]) -> Resu
 
 #[tactic(auto, using(crate::proofs::Writing::writing))]
 fn write_fields(alloc: Global, out: &mut Vec<u8>, fields: &[Field]) -> Result<(), AllocError>
-    ensures { OnOk result (out.new.items ≡ out.old.items ++ printed (fields_words fields.now)) }
+    ensures { OnOk result (out.new.items ≡ out.old.items ++ spaced (fields_words fields.now)) }
 {
     put(out, b"(")?;
     write_some_fields(alloc, out, fields)?;
@@ -154,7 +143,7 @@ fn write_fields(alloc: Global, out: &mut Vec<u8>, fields: &[Field]) -> Result<()
 
 #[tactic(auto, using(crate::proofs::Writing::writing))]
 fn write_reach(alloc: Global, out: &mut Vec<u8>, reach: &Option<Reach>) -> Result<(), AllocError>
-    ensures { OnOk result (out.new.items ≡ out.old.items ++ printed (reach_words reach.now)) }
+    ensures { OnOk result (out.new.items ≡ out.old.items ++ spaced (reach_words reach.now)) }
 {
     match reach {
         None => Ok(()),
@@ -173,7 +162,7 @@ fn write_reach(alloc: Global, out: &mut Vec<u8>, reach: &Option<Reach>) -> Resul
 
 #[tactic(auto, unfolding(crate::specs::Printed::param_words), using(crate::proofs::Writing::writing))]
 fn write_param(alloc: Global, out: &mut Vec<u8>, param: &Param) -> Result<(), AllocError>
-    ensures { OnOk result (out.new.items ≡ out.old.items ++ printed (param_words param.now)) }
+    ensures { OnOk result (out.new.items ≡ out.old.items ++ spaced (param_words param.now)) }
 {
     put(out, param.name.text.as_slice())?;
     write_reach(alloc, out, &param.reach)
@@ -183,7 +172,7 @@ fn write_param(alloc: Global, out: &mut Vec<u8>, param: &Param) -> Result<(), Al
 #[tactic(auto, unfolding(crate::specs::Printed::comma_param_words), using(crate::proofs::Writing::writing))]
 fn write_more_params(alloc: Global, out: &mut Vec<u8>, params: &[Param]) -> Result<(), AllocError>
     requires { 0 < length params.now }
-    ensures { OnOk result (out.new.items ≡ out.old.items ++ printed (flat_map comma_param_words (drop 1 params.now))) }
+    ensures { OnOk result (out.new.items ≡ out.old.items ++ spaced (flat_map comma_param_words (drop 1 params.now))) }
 {
     for place in 1..params.len() {
         put(out, b",")?;
@@ -194,7 +183,7 @@ fn write_more_params(alloc: Global, out: &mut Vec<u8>, params: &[Param]) -> Resu
 
 #[tactic(auto, using(crate::proofs::Writing::writing))]
 fn write_some_params(alloc: Global, out: &mut Vec<u8>, params: &[Param]) -> Result<(), AllocError>
-    ensures { OnOk result (out.new.items ≡ out.old.items ++ printed (some_params_words params.now)) }
+    ensures { OnOk result (out.new.items ≡ out.old.items ++ spaced (some_params_words params.now)) }
 {
     if params.is_empty() {
         return Ok(());
@@ -205,7 +194,7 @@ fn write_some_params(alloc: Global, out: &mut Vec<u8>, params: &[Param]) -> Resu
 
 #[tactic(auto, using(crate::proofs::Writing::writing))]
 fn write_params(alloc: Global, out: &mut Vec<u8>, params: &[Param]) -> Result<(), AllocError>
-    ensures { OnOk result (out.new.items ≡ out.old.items ++ printed (params_words params.now)) }
+    ensures { OnOk result (out.new.items ≡ out.old.items ++ spaced (params_words params.now)) }
 {
     put(out, b"(")?;
     write_some_params(alloc, out, params)?;
@@ -214,7 +203,7 @@ fn write_params(alloc: Global, out: &mut Vec<u8>, params: &[Param]) -> Result<()
 
 #[tactic(auto, unfolding(crate::specs::Printed::item_words), using(crate::proofs::Writing::writing))]
 fn write_item(alloc: Global, out: &mut Vec<u8>, item: &Item) -> Result<(), AllocError>
-    ensures { OnOk result (out.new.items ≡ out.old.items ++ printed (item_words item.now)) }
+    ensures { OnOk result (out.new.items ≡ out.old.items ++ spaced (item_words item.now)) }
 {
     match item {
         Item::Fields {
@@ -255,7 +244,7 @@ fn write_item(alloc: Global, out: &mut Vec<u8>, item: &Item) -> Result<(), Alloc
 
 #[tactic(auto, using(crate::proofs::Writing::writing))]
 fn write_items(alloc: Global, out: &mut Vec<u8>, items: &[Item]) -> Result<(), AllocError>
-    ensures { OnOk result (out.new.items ≡ out.old.items ++ printed (flat_map item_words items.now)) }
+    ensures { OnOk result (out.new.items ≡ out.old.items ++ spaced (flat_map item_words items.now)) }
 {
     for item in items {
         write_item(alloc, out, item)?;
@@ -265,7 +254,7 @@ fn write_items(alloc: Global, out: &mut Vec<u8>, items: &[Item]) -> Result<(), A
 
 #[tactic(auto, using(crate::proofs::Writing::writing))]
 fn write_coding(alloc: Global, out: &mut Vec<u8>, raw: &RawCoding) -> Result<(), AllocError>
-    ensures { OnOk result (out.new.items ≡ out.old.items ++ printed (coding_words raw.now)) }
+    ensures { OnOk result (out.new.items ≡ out.old.items ++ spaced (coding_words raw.now)) }
 {
     put(out, b"coding")?;
     put(out, raw.name.text.as_slice())?;
@@ -276,13 +265,15 @@ fn write_coding(alloc: Global, out: &mut Vec<u8>, raw: &RawCoding) -> Result<(),
 /// file has this tree, the text is read again as the same tree but for the numbers of tokens.
 pub fn write_sled(alloc: Global, raw: &RawCoding) -> Result<Vec<u8>, AllocError>
     ensures words { IfOk result (λ out. (tokens : List Lexeme) → IsPhrase sled coding tokens raw.now
-        → out.items ≡ printed (spellings as_text tokens)) }
+        → out.items ≡ spaced (spellings as_text tokens)) }
     ensures again { IfOk result (λ out. (bytes : List ℕ)
-        → IsTextAnswer sled coding reserved bytes (Ok raw.now) → IsTextOf raw.now out.items) }
+        → IsTextAnswer sled coding reserved bytes (Ok raw.now)
+        → IsTextOf as_text sled coding reserved raw.now out.items) }
 {
     words_are_tokens();
     texts_of_their_kinds();
     one_end();
+    printed_tokens_are_tokens();
     let mut out = Vec::new(alloc);
     write_coding(alloc, &mut out, raw)?;
     Ok(out)

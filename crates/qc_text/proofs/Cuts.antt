@@ -50,7 +50,8 @@ some_text (Some kind) is = is.1 refl
 one_kind : (kind other : Option Kind) (text : List ℕ) → IsPieceText kind text → IsPieceText other text → kind ≡ other
 one_kind kind other [] is also = absurd (some_text kind is)
 one_kind kind other (b ∷ bs) is also =
-    shape_kind kind b bs (sort_of b) (shape kind b bs is) ∙ sym (shape_kind other b bs (sort_of b) (shape other b bs also))
+    shape_kind kind b bs (sort_of b) (shape kind b bs is)
+    ∙ sym (shape_kind other b bs (sort_of b) (shape other b bs also))
 
 same_fronts : (xs ys r s : List ℕ) → length xs ≡ length ys → xs ++ r ≡ ys ++ s → (xs ≡ ys) × (r ≡ s)
 same_fronts [] [] r s size e = (refl, e)
@@ -69,10 +70,12 @@ same_piece : (k l : Option Kind) (t u : List ℕ) → k ≡ l → t ≡ u → pi
 same_piece k l t u e f = cc
 
 -- one piece is at the front
-pub one_first : (bytes : List ℕ) (p q : Piece) (r s : List ℕ) → IsFirst bytes p r → IsFirst bytes q s → (p ≡ q) × (r ≡ s)
+pub one_first : (bytes : List ℕ) (p q : Piece) (r s : List ℕ) → IsFirst bytes p r → IsFirst bytes q s
+    → (p ≡ q) × (r ≡ s)
 one_first bytes p q r s first also =
     let size : length p.text ≡ length q.text =
-    omega (arith, first.longest q.kind q.text s also.is also.split, also.longest p.kind p.text r first.is first.split) in
+    omega (arith, first.longest q.kind q.text s also.is also.split, also.longest p.kind p.text r first.is first.split)
+    in
     let same = same_fronts p.text q.text r s size (sym first.split ∙ also.split) in
     let kind : p.kind ≡ q.kind = one_kind p.kind q.kind q.text (subst (IsPieceText p.kind) same.0 first.is) also.is in
     let text : p.text ≡ q.text = same.0 in
@@ -89,18 +92,22 @@ begins_nothing kind (b ∷ text) after is e = cc e
 pub end_is_stuck : IsStuck []
 end_is_stuck piece after first = begins_nothing piece.kind piece.text after first.is first.split
 
-pub one_cut : (pieces further : List Piece) (bytes r s : List ℕ) → AreCut bytes pieces r → AreCut bytes further s → IsStuck r → IsStuck s → (pieces ≡ further) × (r ≡ s)
+pub one_cut : (pieces further : List Piece) (bytes r s : List ℕ) → AreCut bytes pieces r → AreCut bytes further s
+    → IsStuck r → IsStuck s → (pieces ≡ further) × (r ≡ s)
 one_cut [] [] bytes r s cut also stuck too = (refl, sym cut ∙ also)
-one_cut [] (q ∷ further) bytes r s cut also stuck too = absurd (stuck q also.0 (subst (λ b. IsFirst b q also.0) cut also.1))
+one_cut [] (q ∷ further) bytes r s cut also stuck too =
+    absurd (stuck q also.0 (subst (λ b. IsFirst b q also.0) cut also.1))
 one_cut (p ∷ pieces) [] bytes r s cut also stuck too = absurd (too p cut.0 (subst (λ b. IsFirst b p cut.0) also cut.1))
 one_cut (p ∷ pieces) (q ∷ further) bytes r s cut also stuck too =
     let first = one_first bytes p q cut.0 also.0 cut.1 also.1 in
-    let rest = one_cut pieces further cut.0 r s cut.2 (subst (λ b. AreCut b further s) (sym first.1) also.2) stuck too in
+    let rest = one_cut pieces further cut.0 r s cut.2 (subst (λ b. AreCut b further s) (sym first.1) also.2) stuck
+    too in
     let piece : p ≡ q = first.0 in
     let tail : pieces ≡ further = rest.0 in
     (cc (piece, tail), rest.1)
 
-pub one_token_list : (bytes : List ℕ) (tokens further : List Token) → AreTokens bytes tokens → AreTokens bytes further → tokens ≡ further
+pub one_token_list : (bytes : List ℕ) (tokens further : List Token) → AreTokens bytes tokens → AreTokens bytes further
+    → tokens ≡ further
 one_token_list bytes tokens further are also =
     let same = one_cut are.pieces also.pieces bytes [] [] are.cut also.cut end_is_stuck end_is_stuck in
     are.are ∙ ap (tokens_of 0) same.0 ∙ sym also.are

@@ -1,5 +1,6 @@
 pub mod Comments
 pub mod Cuts
+pub mod Decimals
 pub mod Fronts
 pub mod Lexemes
 pub mod Numerals

@@ -14,14 +14,17 @@ run_covers p (x ∷ xs) ys all =
     rw both.0 (omega (arith, run_covers p xs ys both.1))
 
 -- and all of it, where a byte follows that doesn't pass
-pub run_ends : (p : ℕ → Bool) (xs : List ℕ) (y : ℕ) (ys : List ℕ) → list_all p xs ≡ true → p y ≡ false → prefix_len p (xs ++ y ∷ ys) ≡ length xs
+pub run_ends : (p : ℕ → Bool) (xs : List ℕ) (y : ℕ) (ys : List ℕ) → list_all p xs ≡ true → p y ≡ false
+    → prefix_len p (xs ++ y ∷ ys) ≡ length xs
 run_ends p [] y ys all stops = rw stops refl
 run_ends p (x ∷ xs) y ys all stops =
     let both = both_true (p x) (list_all p xs) all in
     rw both.0 (omega (arith, run_ends p xs y ys both.1 stops))
 
-run_passes_on : (p : ℕ → Bool) (x : ℕ) (xs : List ℕ) (b : Bool) → p x ≡ b → list_all p (take (prefix_len p xs) xs) ≡ true → list_all p (take (cond b (1 + prefix_len p xs) 0) (x ∷ xs)) ≡ true
-run_passes_on p x xs true e rest = let next : 1 + prefix_len p xs ≡ suc (prefix_len p xs) = omega arith in rw next (rw e rest)
+run_passes_on : (p : ℕ → Bool) (x : ℕ) (xs : List ℕ) (b : Bool) → p x ≡ b
+    → list_all p (take (prefix_len p xs) xs) ≡ true → list_all p (take (cond b (1 + prefix_len p xs) 0) (x ∷ xs)) ≡ true
+run_passes_on p x xs true e rest = let next : 1 + prefix_len p xs ≡ suc (prefix_len p xs) = omega arith in
+    rw next (rw e rest)
 run_passes_on p x xs false e rest = refl
 
 -- the longest run passes

@@ -28,7 +28,15 @@ all_tokens bytes tokens from = record { pieces = from.pieces; cut = from.cut; ar
 
 pub all_bad : (bytes : List ℕ) (bad : ℕ) → IsBadFrom 0 bytes bad → IsBadByte bytes bad
 all_bad bytes bad from =
-    record { pieces = from.pieces; rest = from.rest; cut = from.cut; place = from.place; some = from.some; none = from.none }
+    record {
+      pieces = from.pieces;
+      rest = from.rest;
+      cut = from.cut;
+      place = from.place;
+      some = from.some;
+      none =
+          from.none;
+    }
 
 pub last_token : (at : ℕ) (bytes : List ℕ) → bytes ≡ [] → AreTokensFrom at bytes (token_at at (Some End) at)
 last_token at bytes e = record { pieces = []; cut = e; are = refl }
@@ -37,7 +45,9 @@ pub bad_here : (at : ℕ) (bytes : List ℕ) → bytes ≢ [] → IsFront bytes 
 unfolding IsFront
 bad_here at bytes some none = record { pieces = []; rest = bytes; cut = refl; place = refl; some = some; none = none }
 
-pub more_tokens : (at : ℕ) (bytes : List ℕ) (front : Front) (tokens : List Token) → IsFront bytes (Some front) → AreTokensFrom (at + front.length) (drop front.length bytes) tokens → AreTokensFrom at bytes (token_at at front.kind (at + front.length) ++ tokens)
+pub more_tokens : (at : ℕ) (bytes : List ℕ) (front : Front) (tokens : List Token) → IsFront bytes (Some front)
+    → AreTokensFrom (at + front.length) (drop front.length bytes) tokens
+    → AreTokensFrom at bytes (token_at at front.kind (at + front.length) ++ tokens)
 unfolding IsFront
 more_tokens at bytes front tokens first later =
     let size : length (take front.length bytes) ≡ front.length = length-take-le front.length bytes first.1 in
@@ -48,7 +58,8 @@ more_tokens at bytes front tokens first later =
           ∙ ap (λ n. token_at at front.kind (at + n) ++ tokens_of (at + n) later.pieces) (sym size);
     }
 
-pub bad_later : (at : ℕ) (bytes : List ℕ) (front : Front) (bad : ℕ) → IsFront bytes (Some front) → IsBadFrom (at + front.length) (drop front.length bytes) bad → IsBadFrom at bytes bad
+pub bad_later : (at : ℕ) (bytes : List ℕ) (front : Front) (bad : ℕ) → IsFront bytes (Some front)
+    → IsBadFrom (at + front.length) (drop front.length bytes) bad → IsBadFrom at bytes bad
 unfolding IsFront
 bad_later at bytes front bad first later =
     let size : length (take front.length bytes) ≡ front.length = length-take-le front.length bytes first.1 in
@@ -61,6 +72,7 @@ bad_later at bytes front bad first later =
       none = later.none;
     }
 
-pub front_size : (bytes : List ℕ) (front : Front) → IsFront bytes (Some front) → (0 < front.length) × (front.length ≤ length bytes)
+pub front_size : (bytes : List ℕ) (front : Front) → IsFront bytes (Some front)
+    → (0 < front.length) × (front.length ≤ length bytes)
 unfolding IsFront
 front_size bytes front first = (first.0, first.1)

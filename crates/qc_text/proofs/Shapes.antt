@@ -28,7 +28,8 @@ sort_of b =
     cond (is_name_start b) names
     (cond (is_ascii_digit b) numbers
     (cond (nat_eq b 37) prims
-    (cond (nat_eq b 34) strings (cond (nat_eq b 47) slashes (cond (is_blank b) blanks (cond (is_punctuation b) marks others))))))
+    (cond (nat_eq b 34) strings
+    (cond (nat_eq b 47) slashes (cond (is_blank b) blanks (cond (is_punctuation b) marks others))))))
 
 -- what is behind the first byte of a piece, by what begins with that byte
 pub data Shape (kind : Option Kind) (b : ℕ) (bs : List ℕ) : Sort → Type 0 where
@@ -70,7 +71,41 @@ sort_blank b e = member (λ x. sort_of x ≡ blanks) (32 ∷ 9 ∷ 13 ∷ 10 ∷
 
 pub sort_mark : (b : ℕ) → is_punctuation b ≡ true → (sort_of b ≡ marks) ⊎ (b ≡ 47)
 unfolding sort_of
-sort_mark b e = member (λ x. (sort_of x ≡ marks) ⊎ (x ≡ 47)) (codes "()[]{},;:=|&/.'-@") b e (inl refl, (inl refl, (inl refl, (inl refl, (inl refl, (inl refl, (inl refl, (inl refl, (inl refl, (inl refl, (inl refl, (inl refl, (inr refl, (inl refl, (inl refl, (inl refl, (inl refl, tt)))))))))))))))))
+sort_mark b e =
+    member (λ x. (sort_of x ≡ marks) ⊎ (x ≡ 47)) (codes "()[]{},;:=|&/.'-@") b e (
+      inl refl,
+      (
+        inl refl,
+        (
+          inl refl,
+          (
+            inl refl,
+            (
+              inl refl,
+              (
+                inl refl,
+                (
+                  inl refl,
+                  (
+                    inl refl,
+                    (
+                      inl refl,
+                      (
+                        inl refl,
+                        (
+                          inl refl,
+                          (inl refl, (inr refl, (inl refl, (inl refl, (inl refl, (inl refl, tt)))))),
+                        ),
+                      ),
+                    ),
+                  ),
+                ),
+              ),
+            ),
+          ),
+        ),
+      ),
+    )
 
 pub sort_percent : sort_of 37 ≡ prims
 unfolding sort_of
@@ -101,7 +136,8 @@ unfolding sort_of
 sort_zero = refl
 
 -- a piece is as what begins with its first byte
-in_sort : (kind : Option Kind) (b : ℕ) (bs : List ℕ) (s : Sort) → sort_of b ≡ s → Shape kind b bs s → Shape kind b bs (sort_of b)
+in_sort : (kind : Option Kind) (b : ℕ) (bs : List ℕ) (s : Sort) → sort_of b ≡ s → Shape kind b bs s
+    → Shape kind b bs (sort_of b)
 in_sort kind b bs s e shape = subst (Shape kind b bs) (sym e) shape
 
 number_first : (b : ℕ) (bs : List ℕ) → IsNumberText (b ∷ bs) → sort_of b ≡ numbers
@@ -111,11 +147,14 @@ number_first b bs (inr hexadecimal) =
 
 punct_shape : (b : ℕ) (bs : List ℕ) → IsPunctText (b ∷ bs) → Shape (Some Punct) b bs (sort_of b)
 punct_shape b bs (inl e) =
-    let same : b ≡ 58 = cc e in in_sort _ b bs marks (ap sort_of same ∙ sort_colon) (a_pair refl 61 (cc e) (ap (λ x. is_pair x 61) same))
+    let same : b ≡ 58 = cc e in
+    in_sort _ b bs marks (ap sort_of same ∙ sort_colon) (a_pair refl 61 (cc e) (ap (λ x. is_pair x 61) same))
 punct_shape b bs (inr (inl e)) =
-    let same : b ≡ 61 = cc e in in_sort _ b bs marks (ap sort_of same ∙ sort_equals) (a_pair refl 62 (cc e) (ap (λ x. is_pair x 62) same))
+    let same : b ≡ 61 = cc e in
+    in_sort _ b bs marks (ap sort_of same ∙ sort_equals) (a_pair refl 62 (cc e) (ap (λ x. is_pair x 62) same))
 punct_shape b bs (inr (inr (inl e))) =
-    let same : b ≡ 46 = cc e in in_sort _ b bs marks (ap sort_of same ∙ sort_dot) (a_pair refl 46 (cc e) (ap (λ x. is_pair x 46) same))
+    let same : b ≡ 46 = cc e in
+    in_sort _ b bs marks (ap sort_of same ∙ sort_dot) (a_pair refl 46 (cc e) (ap (λ x. is_pair x 46) same))
 punct_shape b bs (inr (inr (inr (c, mark, e)))) =
     let first : c ≡ b = cc e in
     let last : bs ≡ [] = cc e in

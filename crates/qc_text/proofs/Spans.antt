@@ -17,13 +17,17 @@ pub record Stands (file : List ℕ) (at : ℕ) (token : Token) : Type 0 where
   pub inside : token.end ≤ length file
   pub text : IsTokenText token.kind (token_text file token)
 
-earlier : (file : List ℕ) (at before : ℕ) → before ≤ at → (tokens : List Token) → AllByRecursion (Stands file at) tokens → AllByRecursion (Stands file before) tokens
+earlier : (file : List ℕ) (at before : ℕ) → before ≤ at → (tokens : List Token) → AllByRecursion (Stands file at) tokens
+    → AllByRecursion (Stands file before) tokens
 earlier file at before le [] all = tt
-earlier file at before le (t ∷ tokens) all =
-    (record { later = omega (arith, all.0.later); order = all.0.order; inside = all.0.inside; text = all.0.text }, earlier file at before le tokens all.1)
+earlier file at before le (t ∷ tokens) all = (
+  record { later = omega (arith, all.0.later); order = all.0.order; inside = all.0.inside; text = all.0.text },
+  earlier file at before le tokens all.1,
+)
 
 -- the bytes between two places
-between : (file front text after : List ℕ) → file ≡ front ++ (text ++ after) → slice_range file (length front) (length front + length text) ≡ text
+between : (file front text after : List ℕ) → file ≡ front ++ (text ++ after)
+    → slice_range file (length front) (length front + length text) ≡ text
 between file front text after e =
     let size : length front + length text - length front ≡ length text = omega arith in
     ap (λ n. take n (drop (length front) file)) size
@@ -31,7 +35,9 @@ between file front text after e =
     ∙ ap (take (length text)) (drop-append_seam front (text ++ after))
     ∙ take-append_seam text after
 
-one_stands : (file front after : List ℕ) (kind : Option Kind) (text : List ℕ) → file ≡ front ++ (text ++ after) → IsPieceText kind text → AllByRecursion (Stands file (length front)) (token_at (length front) kind (length front + length text))
+one_stands : (file front after : List ℕ) (kind : Option Kind) (text : List ℕ) → file ≡ front ++ (text ++ after)
+    → IsPieceText kind text
+    → AllByRecursion (Stands file (length front)) (token_at (length front) kind (length front + length text))
 one_stands file front after None text e is = tt
 one_stands file front after (Some kind) text e is = (
   record {
@@ -43,16 +49,24 @@ one_stands file front after (Some kind) text e is = (
   tt,
 )
 
-both_parts : (P : Token → Type 0) (xs ys : List Token) → AllByRecursion P xs → AllByRecursion P ys → AllByRecursion P (xs ++ ys)
+both_parts : (P : Token → Type 0) (xs ys : List Token) → AllByRecursion P xs → AllByRecursion P ys
+    → AllByRecursion P (xs ++ ys)
 both_parts P [] ys all more = more
 both_parts P (x ∷ xs) ys all more = (all.0, both_parts P xs ys all.1 more)
 
 end_stands : (file : List ℕ) → Stands file (length file) (record { kind = End; start = length file; end = length file })
 end_stands file = let none : length file - length file ≡ 0 = omega arith in
-    record { later = omega arith; order = omega arith; inside = omega arith; text = ap (λ n. take n (drop (length file) file)) none }
+    record {
+      later = omega arith;
+      order = omega arith;
+      inside = omega arith;
+      text =
+          ap (λ n. take n (drop (length file) file)) none;
+    }
 
 -- all tokens stand in the file
-all_stand : (file front bytes : List ℕ) (at : ℕ) (pieces : List Piece) → file ≡ front ++ bytes → at ≡ length front → AreCut bytes pieces [] → AllByRecursion (Stands file at) (tokens_of at pieces)
+all_stand : (file front bytes : List ℕ) (at : ℕ) (pieces : List Piece) → file ≡ front ++ bytes → at ≡ length front
+    → AreCut bytes pieces [] → AllByRecursion (Stands file at) (tokens_of at pieces)
 all_stand file front bytes at [] e place cut =
     let whole : file ≡ front = e ∙ ap (λ xs. front ++ xs) cut ∙ append-nil front in
     let here : at ≡ length file = place ∙ sym (ap length whole) in
@@ -65,22 +79,28 @@ all_stand file front bytes at (piece ∷ pieces) e place cut =
     let rest = all_stand file (front ++ piece.text) cut.0 (at + length piece.text) pieces
     (split ∙ sym (append_assoc front piece.text cut.0))
     (omega (arith, place, length-append front piece.text)) cut.2 in
-    both_parts (Stands file at) (token_at at piece.kind (at + length piece.text)) (tokens_of (at + length piece.text) pieces) first
+    both_parts (Stands file at) (token_at at piece.kind (at + length piece.text))
+    (tokens_of (at + length piece.text) pieces) first
     (earlier file (at + length piece.text) at (omega arith) (tokens_of (at + length piece.text) pieces) rest)
 
-got : (P : Token → Type 0) (tokens : List Token) (i : ℕ) (token : Token) → AllByRecursion P tokens → slice_get tokens i ≡ Some token → P token
+got : (P : Token → Type 0) (tokens : List Token) (i : ℕ) (token : Token) → AllByRecursion P tokens
+    → slice_get tokens i ≡ Some token → P token
 got P [] i token all e = cc e
 got P (t ∷ tokens) zero token all e = let same : t ≡ token = cc e in subst P same all.0
 got P (t ∷ tokens) (suc i) token all e = got P tokens i token all.1 e
 
-stands : (bytes : List ℕ) (tokens : List Token) (i : ℕ) (token : Token) → AreTokens bytes tokens → slice_get tokens i ≡ Some token → Stands bytes 0 token
+stands : (bytes : List ℕ) (tokens : List Token) (i : ℕ) (token : Token) → AreTokens bytes tokens
+    → slice_get tokens i ≡ Some token → Stands bytes 0 token
 stands bytes tokens i token are e =
-    got (Stands bytes 0) (tokens_of 0 are.pieces) i token (all_stand bytes [] bytes 0 are.pieces refl refl are.cut) (ap (λ ts. slice_get ts i) (sym are.are) ∙ e)
+    got (Stands bytes 0) (tokens_of 0 are.pieces) i token (all_stand bytes [] bytes 0 are.pieces refl refl are.cut)
+    (ap (λ ts. slice_get ts i) (sym are.are) ∙ e)
 
-pub inside : (bytes : List ℕ) (tokens : List Token) (i : ℕ) (token : Token) → AreTokens bytes tokens → slice_get tokens i ≡ Some token → (token.start ≤ token.end) × (token.end ≤ length bytes)
+pub inside : (bytes : List ℕ) (tokens : List Token) (i : ℕ) (token : Token) → AreTokens bytes tokens
+    → slice_get tokens i ≡ Some token → (token.start ≤ token.end) × (token.end ≤ length bytes)
 inside bytes tokens i token are e = let s = stands bytes tokens i token are e in (s.order, s.inside)
 
-pub of_its_kind : (bytes : List ℕ) (tokens : List Token) (i : ℕ) (token : Token) → AreTokens bytes tokens → slice_get tokens i ≡ Some token → IsTokenText token.kind (token_text bytes token)
+pub of_its_kind : (bytes : List ℕ) (tokens : List Token) (i : ℕ) (token : Token) → AreTokens bytes tokens
+    → slice_get tokens i ≡ Some token → IsTokenText token.kind (token_text bytes token)
 of_its_kind bytes tokens i token are e = (stands bytes tokens i token are e).text
 
 -- each token ends before the next ones begin
@@ -88,25 +108,31 @@ abbrev AreOrdered : List Token → Type 0
 AreOrdered [] = Unit {0}
 AreOrdered (t ∷ tokens) = AllByRecursion (λ u. t.end ≤ u.start) tokens × AreOrdered tokens
 
-behind : (file : List ℕ) (at : ℕ) (tokens : List Token) → AllByRecursion (Stands file at) tokens → AllByRecursion (λ u. at ≤ u.start) tokens
+behind : (file : List ℕ) (at : ℕ) (tokens : List Token) → AllByRecursion (Stands file at) tokens
+    → AllByRecursion (λ u. at ≤ u.start) tokens
 behind file at [] all = tt
 behind file at (t ∷ tokens) all = (all.0.later, behind file at tokens all.1)
 
-with_token : (at end : ℕ) (kind : Option Kind) (tokens : List Token) → AllByRecursion (λ u. end ≤ u.start) tokens → AreOrdered tokens → AreOrdered (token_at at kind end ++ tokens)
+with_token : (at end : ℕ) (kind : Option Kind) (tokens : List Token) → AllByRecursion (λ u. end ≤ u.start) tokens
+    → AreOrdered tokens → AreOrdered (token_at at kind end ++ tokens)
 with_token at end None tokens later ordered = ordered
 with_token at end (Some kind) tokens later ordered = (later, ordered)
 
-all_ordered : (file front bytes : List ℕ) (at : ℕ) (pieces : List Piece) → file ≡ front ++ bytes → at ≡ length front → AreCut bytes pieces [] → AreOrdered (tokens_of at pieces)
+all_ordered : (file front bytes : List ℕ) (at : ℕ) (pieces : List Piece) → file ≡ front ++ bytes → at ≡ length front
+    → AreCut bytes pieces [] → AreOrdered (tokens_of at pieces)
 all_ordered file front bytes at [] e place cut = (tt, tt)
 all_ordered file front bytes at (piece ∷ pieces) e place cut =
     let split : file ≡ front ++ (piece.text ++ cut.0) = e ∙ ap (λ xs. front ++ xs) cut.1.split in
     let again : file ≡ (front ++ piece.text) ++ cut.0 = split ∙ sym (append_assoc front piece.text cut.0) in
-    let next : at + length piece.text ≡ length (front ++ piece.text) = omega (arith, place, length-append front piece.text) in
+    let next : at + length piece.text ≡ length (front ++ piece.text) =
+    omega (arith, place, length-append front piece.text) in
     with_token at (at + length piece.text) piece.kind (tokens_of (at + length piece.text) pieces)
-    (behind file (at + length piece.text) (tokens_of (at + length piece.text) pieces) (all_stand file (front ++ piece.text) cut.0 (at + length piece.text) pieces again next cut.2))
+    (behind file (at + length piece.text) (tokens_of (at + length piece.text) pieces)
+    (all_stand file (front ++ piece.text) cut.0 (at + length piece.text) pieces again next cut.2))
     (all_ordered file (front ++ piece.text) cut.0 (at + length piece.text) pieces again next cut.2)
 
-ordered_at : (tokens : List Token) (i j : ℕ) (a b : Token) → AreOrdered tokens → i < j → slice_get tokens i ≡ Some a → slice_get tokens j ≡ Some b → a.end ≤ b.start
+ordered_at : (tokens : List Token) (i j : ℕ) (a b : Token) → AreOrdered tokens → i < j → slice_get tokens i ≡ Some a
+    → slice_get tokens j ≡ Some b → a.end ≤ b.start
 ordered_at [] i j a b ordered lt e f = cc e
 ordered_at (t ∷ tokens) zero zero a b ordered lt e f = absurd (omega arith)
 ordered_at (t ∷ tokens) zero (suc j) a b ordered lt e f =
@@ -115,13 +141,15 @@ ordered_at (t ∷ tokens) zero (suc j) a b ordered lt e f =
 ordered_at (t ∷ tokens) (suc i) zero a b ordered lt e f = absurd (omega arith)
 ordered_at (t ∷ tokens) (suc i) (suc j) a b ordered lt e f = ordered_at tokens i j a b ordered.1 (omega arith) e f
 
-pub in_order : (bytes : List ℕ) (tokens : List Token) (i j : ℕ) (a b : Token) → AreTokens bytes tokens → i < j → slice_get tokens i ≡ Some a → slice_get tokens j ≡ Some b → a.end ≤ b.start
+pub in_order : (bytes : List ℕ) (tokens : List Token) (i j : ℕ) (a b : Token) → AreTokens bytes tokens → i < j
+    → slice_get tokens i ≡ Some a → slice_get tokens j ≡ Some b → a.end ≤ b.start
 in_order bytes tokens i j a b are lt e f =
     ordered_at (tokens_of 0 are.pieces) i j a b (all_ordered bytes [] bytes 0 are.pieces refl refl are.cut) lt
     (ap (λ ts. slice_get ts i) (sym are.are) ∙ e) (ap (λ ts. slice_get ts j) (sym are.are) ∙ f)
 
 -- a token of the file and no end
-not_end : (at end : ℕ) (kind : Option Kind) (text : List ℕ) → IsPieceText kind text → AllByRecursion (λ t. t.kind ≢ End) (token_at at kind end)
+not_end : (at end : ℕ) (kind : Option Kind) (text : List ℕ) → IsPieceText kind text
+    → AllByRecursion (λ t. t.kind ≢ End) (token_at at kind end)
 not_end at end None text is = tt
 not_end at end (Some Name) text is = (λ e. cc e, tt)
 not_end at end (Some Prim) text is = (λ e. cc e, tt)
@@ -130,8 +158,10 @@ not_end at end (Some Str) text is = (λ e. cc e, tt)
 not_end at end (Some Punct) text is = (λ e. cc e, tt)
 not_end at end (Some End) text is = absurd (is.1 is.0)
 
-ends_on : (file front bytes : List ℕ) (at : ℕ) (pieces : List Piece) → file ≡ front ++ bytes → at ≡ length front → AreCut bytes pieces []
-    → (tokens : List Token) × (tokens_of at pieces ≡ tokens ++ token_at (length file) (Some End) (length file)) × AllByRecursion (λ t. t.kind ≢ End) tokens
+ends_on : (file front bytes : List ℕ) (at : ℕ) (pieces : List Piece) → file ≡ front ++ bytes → at ≡ length front
+    → AreCut bytes pieces []
+    → (tokens : List Token) × (tokens_of at pieces ≡ tokens ++ token_at (length file) (Some End) (length file))
+    × AllByRecursion (λ t. t.kind ≢ End) tokens
 ends_on file front bytes at [] e place cut =
     let whole : file ≡ front = e ∙ ap (λ xs. front ++ xs) cut ∙ append-nil front in
     let here : at ≡ length file = place ∙ sym (ap length whole) in
@@ -144,10 +174,13 @@ ends_on file front bytes at (piece ∷ pieces) e place cut =
     (omega (arith, place, length-append front piece.text)) cut.2 in (
       first ++ rest.0,
       ap (λ ts. first ++ ts) rest.1 ∙ sym (append_assoc first rest.0 (token_at (length file) (Some End) (length file))),
-      both_parts (λ t. t.kind ≢ End) first rest.0 (not_end at (at + length piece.text) piece.kind piece.text cut.1.is) rest.2,
+      both_parts (λ t. t.kind ≢ End) first rest.0 (not_end at (at + length piece.text) piece.kind piece.text cut.1.is)
+          rest.2,
     )
 
-pub one_end : (bytes : List ℕ) (tokens : List Token) → AreTokens bytes tokens → (front : List Token) × (tokens ≡ front ++ token_at (length bytes) (Some End) (length bytes)) × All (λ token. token.kind ≢ End) front
+pub one_end : (bytes : List ℕ) (tokens : List Token) → AreTokens bytes tokens
+    → (front : List Token) × (tokens ≡ front ++ token_at (length bytes) (Some End) (length bytes))
+    × All (λ token. token.kind ≢ End) front
 one_end bytes tokens are =
     let ends = ends_on bytes [] bytes 0 are.pieces refl refl are.cut in
     (ends.0, are.are ∙ ends.1, All-from_recursion (λ token. token.kind ≢ End) ends.0 ends.2)

@@ -15,20 +15,23 @@ use Rattle.qc_text.specs.Brackets.{is_shallow}
 
 module _ {I : Type 0} {E : I → Type 0} where
   -- The text is one of the grammar, with this tree, and no bracket in it is too deep.
-  pub record IsTree (s : grammar.Syntax I E) {A : Type 0} (g : Grammar I E A) (tokens : List Lexeme) (tree : A) : Type 0 where
-    pub phrase : IsPhrase s (text g) tokens tree
-    pub shallow : is_shallow 0 tokens ≡ true
+  pub record IsTree (s : grammar.Syntax I E) {A : Type 0} (g : Grammar I E A) (tokens : List Lexeme) (tree : A) : Type 0
+    where
+      pub phrase : IsPhrase s (text g) tokens tree
+      pub shallow : is_shallow 0 tokens ≡ true
 
   -- The tokens before this one begin some text of the grammar, and with this one they begin none. No bracket before it
   -- is too deep.
-  pub record IsSyntax (s : grammar.Syntax I E) {A : Type 0} (g : Grammar I E A) (tokens : List Lexeme) (token : ℕ) : Type 0 where
+  pub record IsSyntax (s : grammar.Syntax I E) {A : Type 0} (g : Grammar I E A) (tokens : List Lexeme)
+      (token : ℕ) : Type 0 where
     pub within : token < length tokens
     pub before : Begins s (text g) (take token tokens)
     pub none : Begins s (text g) (take (suc token) tokens) → ⊥
     pub shallow : is_shallow 0 (take token tokens) ≡ true
 
   -- This token is the first bracket that would make 201 open, and with it the tokens begin some text of the grammar.
-  pub record IsTooDeep (s : grammar.Syntax I E) {A : Type 0} (g : Grammar I E A) (tokens : List Lexeme) (token : ℕ) : Type 0 where
+  pub record IsTooDeep (s : grammar.Syntax I E) {A : Type 0} (g : Grammar I E A) (tokens : List Lexeme)
+      (token : ℕ) : Type 0 where
     pub within : token < length tokens
     pub with_it : Begins s (text g) (take (suc token) tokens)
     pub shallow : is_shallow 0 (take token tokens) ≡ true
@@ -41,7 +44,8 @@ module _ {I : Type 0} {E : I → Type 0} where
   IsAnswer s g tokens (Err NoMemory) = ⊥
 
   -- this is the answer, and no other one is
-  pub record IsOneAnswer (s : grammar.Syntax I E) {A : Type 0} (g : Grammar I E A) (tokens : List Lexeme) (answer : Result A ReadError) : Type 0 where
+  pub record IsOneAnswer (s : grammar.Syntax I E) {A : Type 0} (g : Grammar I E A) (tokens : List Lexeme)
+      (answer : Result A ReadError) : Type 0 where
     pub is : IsAnswer s g tokens answer
     pub only : (other : Result A ReadError) → IsAnswer s g tokens other → answer ≡ other
 

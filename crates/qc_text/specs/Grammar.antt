@@ -3,7 +3,9 @@ use Rattle.std.specs.Prelude.{ℕ, List, [], ◌∷◌, Option, Some, None}
 use Rattle.qc_text.specs.declared.token.Kind.{Kind}
 use Rattle.qc_text.specs.declared.token.Kind.TheVariants as kind
 use Rattle.qc_text.specs.declared.cursor.Ident.{Ident}
+use Rattle.qc_text.specs.declared.number.Number.{Number}
 use Rattle.qc_text.specs.Lexeme.{Class, Word, Any, Lexeme, ident_of}
+use Rattle.qc_text.specs.Numerals.{number_in}
 
 -- A grammar over the rules of I, where the tree of rule i is of type E i.
 pub data Grammar (I : Type 0) (E : I → Type 0) : Type 0 → Type 1 where
@@ -52,6 +54,10 @@ module _ {I : Type 0} {E : I → Type 0} where
   -- any token of a kind, with its number and its text
   abbrev pub ident : Kind → Grammar I E Ident
   ident k = action ident_of (terminal (Any k))
+
+  -- a number, with its value
+  abbrev pub number : Grammar I E Number
+  number = action number_in (terminal (Any kind.Number))
 
   -- the end of a text
   abbrev pub ending : Grammar I E ℕ

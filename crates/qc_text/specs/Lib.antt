@@ -10,6 +10,7 @@ pub mod Law
 pub mod Lexeme
 pub mod Numerals
 pub mod Pieces
+pub mod Printing
 pub mod ReadAgain
 pub mod Reading
 pub mod Scanning
@@ -17,4 +18,3 @@ pub mod Spaced
 pub mod Spelled
 pub mod TextAnswer
 pub mod Tokens
-pub mod Words

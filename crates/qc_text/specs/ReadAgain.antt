@@ -1,5 +1,5 @@
 -- A printed text is read again: the words of a text, respelled and with a blank after each, are a text that is like it.
-use Rattle.std.specs.Prelude.{ℕ, zero, suc, ◌≡◌, ◌≢◌, Bool, true, false, cond, ◌&&◌, ◌≤◌, List, [], ◌∷◌, ◌++◌, map, length, nat_le, slice_range, slice_get, Some}
+use Rattle.std.specs.Prelude.{ℕ, suc, ◌≡◌, ◌≢◌, Bool, true, false, cond, ◌&&◌, List, [], ◌∷◌, ◌++◌, map, length, nat_le, slice_range, slice_get, Some}
 use Rattle.std.specs.List.{list_any, AllByRecursion, All}
 use Rattle.std.specs.Str.{bytes_eq}
 use Rattle.std.proofs.Common.{refl, ap, sym, ◌∙◌, subst, inl, inr, arith}
@@ -10,15 +10,16 @@ use Rattle.qc_text.specs.declared.token.Kind.TheVariants.{Name, Prim, Number, St
 use Rattle.qc_text.specs.declared.token.Token.{Token}
 use Rattle.qc_text.specs.Tokens.{IsTokenText, token_text}
 use Rattle.qc_text.specs.Pieces.{AreTokens, token_at}
-use Rattle.qc_text.specs.Spaced.{spaced, AreWords, texts_of, words_in}
-use Rattle.qc_text.specs.Lexeme.{Class, Word, Any, Lexeme, class_of, lexemes_from, lexemes}
+use Rattle.qc_text.specs.Spaced.{Words, spaced, AreWords, texts_of, words_in}
+use Rattle.qc_text.specs.Lexeme.{Word, Any, Lexeme, class_of, lexemes_from, lexemes}
 use Rattle.qc_text.specs.Grammar as grammar
 use Rattle.qc_text.specs.Grammar.{Grammar}
 use Rattle.qc_text.specs.Language.{IsPhrase, PhraseBy, Derives}
 use Rattle.qc_text.specs.Clean.{text}
-use Rattle.qc_text.specs.Brackets.{opens, closes, open_after, is_shallow}
-use Rattle.qc_text.specs.Alike.{AreAlike, alike_texts}
-use Rattle.qc_text.specs.Spelled.{spelled_as, spelling, spellings, IsSpelledAlike, alike_spellings}
+use Rattle.qc_text.specs.Brackets.{open_after, is_shallow}
+use Rattle.qc_text.specs.Alike.{AreAlike, AlikeBy, AlikeIn, AreAlikeTrees, alike_texts}
+use Rattle.qc_text.specs.Spelled.{spelled_as, spellings, IsSpelledAlike, AreSameTrees, Respells}
+use Rattle.qc_text.specs.Printing.{IsTextOf}
 use Rattle.qc_text.specs.Answer.{IsTree}
 use Rattle.qc_text.specs.TextAnswer.{OfTokens}
 
@@ -91,15 +92,6 @@ empty_is_end Punct (inr (inl e)) = cc e
 empty_is_end Punct (inr (inr (inl e))) = cc e
 empty_is_end Punct (inr (inr (inr mark))) = cc mark.2
 empty_is_end End is = refl
-
--- How tokens of each kind are respelled: names and punctuation stay, a text of a kind stays one, and what is respelled
--- is respelled the same.
-pub record Respells (as_text : Kind → List ℕ → List ℕ) : Type 0 where
-  pub name : (given : List ℕ) → as_text Name given ≡ given
-  pub punct : (given : List ℕ) → as_text Punct given ≡ given
-  pub of_kind : (kind : Kind) (given : List ℕ) → IsTokenText kind given → IsTokenText kind (as_text kind given)
-  pub again : (kind : Kind) (given : List ℕ) → IsTokenText kind given
-      → as_text kind (as_text kind given) ≡ as_text kind given
 
 module _ (reserved : List (List ℕ)) (as_text : Kind → List ℕ → List ℕ) (respells : Respells as_text) where
   respelled : Kind × List ℕ → Kind × List ℕ
@@ -199,12 +191,17 @@ module _ {I : Type 0} {E : I → Type 0} (s : grammar.Syntax I E) {A : Type 0} (
         phrase = record { depth = p.depth; is = subst (PhraseBy (Derives s p.depth) g p.is.1.0) (sym p.is.2) p.is.1.3 };
       }
 
-  -- The file is a text of the grammar again. Its tree has the same words, whatever words of a tree all its texts spell.
-  pub record IsReadAgain (tree : A) (bytes : List ℕ) : Type 0 where
-    pub other : A
-    pub reads : OfTokens reserved bytes (λ tokens. IsTree s g tokens other)
-    pub same : (words_of : A → List (List ℕ)) → ((tokens : List Lexeme) (t : A) → IsPhrase s g tokens t
-        → spellings as_text tokens ≡ words_of t) → words_of other ≡ words_of tree
+  -- without the end of a text
+  same_before_end : (tree other : A) → AreAlikeTrees s (IsSpelledAlike as_text) (text g) tree other
+      → AreSameTrees as_text s g tree other
+  same_before_end tree other p =
+      record {
+        depth = p.depth;
+        are = subst (λ a. AlikeBy (IsSpelledAlike as_text) (AlikeIn s (IsSpelledAlike as_text) p.depth) g a other)
+            (sym p.are.3)
+            (subst (AlikeBy (IsSpelledAlike as_text) (AlikeIn s (IsSpelledAlike as_text) p.depth) g p.are.0.0)
+            (sym p.are.4) p.are.2.0);
+      }
 
   module _ (respells : Respells as_text)
       (cut : (words : List (Kind × List ℕ)) → AreWords words → (tokens : List Token)
@@ -218,7 +215,7 @@ module _ {I : Type 0} {E : I → Type 0} (s : grammar.Syntax I E) {A : Type 0} (
     again_by : (words : List (Kind × List ℕ)) (given : List ℕ) → AreOfKinds (words ++ (End, given) ∷ [])
         → AllByRecursion (λ word. word.0 ≢ End) words
         → (tree : A) → IsTree s g (from_words reserved 0 (words ++ (End, given) ∷ [])) tree
-        → IsReadAgain tree (spaced (texts_of (map (respelled reserved as_text respells) words)))
+        → IsTextOf as_text s g reserved tree (spaced (texts_of (map (respelled reserved as_text respells) words)))
     again_by words given all whole tree is =
         let parts : AreOfKinds words × IsTokenText End given = front_kinds words (End, given) all in
         let others : List (Kind × List ℕ) = map (respelled reserved as_text respells) words in
@@ -235,7 +232,7 @@ module _ {I : Type 0} {E : I → Type 0} (s : grammar.Syntax I E) {A : Type 0} (
         let alike : AreAlike (IsSpelledAlike as_text) (from_words reserved 0 (words ++ (End, given) ∷ [])) new =
         subst (AreAlike (IsSpelledAlike as_text) (from_words reserved 0 (words ++ (End, given) ∷ []))) same_new
         (words_alike reserved as_text respells 0 0 (words ++ (End, given) ∷ []) all) in
-        let read = alike_texts s (IsSpelledAlike as_text) (λ t u h. h.0) (λ _ _ _. Unit {0}) (λ _ _ _ _. tt) (text g)
+        let read = alike_texts s (IsSpelledAlike as_text) (λ t u h. h.0) (text g)
         (from_words reserved 0 (words ++ (End, given) ∷ [])) new tree is.phrase alike in
         record {
           other = read.0;
@@ -249,30 +246,13 @@ module _ {I : Type 0} {E : I → Type 0} (s : grammar.Syntax I E) {A : Type 0} (
                   ∙ is.shallow;
             };
           };
-          same = same_words (from_words reserved 0 (words ++ (End, given) ∷ [])) new tree read.0 is.phrase read.1 alike;
+          same = same_before_end tree read.0 read.2;
         }
-      where
-        same_words : (tokens others : List Lexeme) (tree other : A) → IsPhrase s (text g) tokens tree
-            → IsPhrase s (text g) others other → AreAlike (IsSpelledAlike as_text) tokens others
-            → (words_of : A → List (List ℕ)) → ((ts : List Lexeme) (t : A) → IsPhrase s g ts t
-            → spellings as_text ts ≡ words_of t) → words_of other ≡ words_of tree
-        same_words tokens others tree other p q alike words_of spell =
-            let mine : Fronted tokens tree = fronted tokens tree p in
-            let theirs : Fronted others other = fronted others other q in
-            let whole : spellings as_text mine.front ++ spelling as_text mine.last ∷ []
-            ≡ spellings as_text theirs.front ++ spelling as_text theirs.last ∷ [] =
-            sym (map-append (spelling as_text) mine.front (mine.last ∷ []))
-            ∙ ap (spellings as_text) (sym mine.split) ∙ alike_spellings as_text tokens others alike
-            ∙ ap (spellings as_text) theirs.split ∙ map-append (spelling as_text) theirs.front (theirs.last ∷ []) in
-            sym (spell theirs.front other theirs.phrase)
-            ∙ sym (same_front (spellings as_text mine.front) (spellings as_text theirs.front)
-            (spelling as_text mine.last) (spelling as_text theirs.last) whole)
-            ∙ spell mine.front tree mine.phrase
 
     -- What is printed for a tree is read again.
     pub read_again : (bytes : List ℕ) (tree : A) → OfTokens reserved bytes (λ tokens. IsTree s g tokens tree)
         → (out : List ℕ) → ((tokens : List Lexeme) → IsPhrase s g tokens tree
-        → out ≡ spaced (spellings as_text tokens)) → IsReadAgain tree out
+        → out ≡ spaced (spellings as_text tokens)) → IsTextOf as_text s g reserved tree out
     read_again bytes tree o out printed =
         let ends = one_end bytes o.tokens o.are in
         let words : List (Kind × List ℕ) = words_in bytes ends.0 in
@@ -298,4 +278,12 @@ module _ {I : Type 0} {E : I → Type 0} (s : grammar.Syntax I E) {A : Type 0} (
         let texts : spaced (texts_of (map (respelled reserved as_text respells) words)) ≡ out =
         ap spaced (texts_spelled reserved as_text respells 0 words ∙ ap (spellings as_text) same)
         ∙ sym (printed front.front front.phrase) in
-        subst (IsReadAgain tree) texts (again_by words given all whole tree is)
+        subst (IsTextOf as_text s g reserved tree) texts (again_by words given all whole tree is)
+
+  -- Words of a tree that are what each of its texts spells, printed after nothing.
+  pub words_alone : (words : A → Words) → ((tokens : List Lexeme) (tree : A) → IsPhrase s g tokens tree
+      → spellings as_text tokens ≡ words tree) → (tree : A) (before out : List ℕ) → before ≡ []
+      → out ≡ before ++ spaced (words tree) → (tokens : List Lexeme) → IsPhrase s g tokens tree
+      → out ≡ spaced (spellings as_text tokens)
+  words_alone words texts tree before out none printed tokens phrase =
+      printed ∙ ap (λ bytes. bytes ++ spaced (words tree)) none ∙ sym (ap spaced (texts tokens tree phrase))

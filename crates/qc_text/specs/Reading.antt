@@ -5,6 +5,8 @@ use Rattle.qc_text.specs.Lexeme.{Class, Word, Any, Lexeme, same_class, ident_of}
 use Rattle.qc_text.specs.declared.token.Kind.{Kind}
 use Rattle.qc_text.specs.declared.token.Kind.TheVariants as kind
 use Rattle.qc_text.specs.declared.cursor.Ident.{Ident}
+use Rattle.qc_text.specs.declared.number.Number.{Number}
+use Rattle.qc_text.specs.Numerals.{number_in}
 use Rattle.qc_text.specs.Grammar.{Grammar, terminal, empty, sequence, choice, action, repetition, nonterminal, Syntax}
 
 -- a tree and the tokens after its phrase, or how many tokens are left at the one that can't go on
@@ -43,6 +45,10 @@ read_end tokens = then_read (take_one (Any kind.End) tokens) (λ token rest. Ok 
 -- any token of a kind, with its number and its text
 abbrev pub read_ident : Kind → List Lexeme → Read Ident
 read_ident kind tokens = then_read (take_one (Any kind) tokens) (λ token rest. Ok (ident_of token, rest))
+
+-- a number, with its value
+abbrev pub read_number : List Lexeme → Read Number
+read_number tokens = then_read (take_one (Any kind.Number) tokens) (λ token rest. Ok (number_in token, rest))
 
 -- what read gives, again and again while the next token is of one of the classes
 abbrev pub repeated : {A : Type 0} → (List Lexeme → Read A) → List Class → ℕ → List Lexeme → Read (List A)

@@ -1,12 +1,37 @@
 -- Words with a blank after each.
-use Rattle.std.specs.Prelude.{ℕ, ◌≢◌, List, [], ◌∷◌, ◌++◌, map}
+use Rattle.std.specs.Prelude.{ℕ, ◌≡◌, ◌≢◌, List, [], ◌∷◌, ◌++◌, map}
 use Rattle.std.specs.List.{flat_map}
+use Rattle.std.proofs.Common.{refl, ap, sym, ◌∙◌, append_assoc}
 use Rattle.qc_text.specs.declared.token.Kind.{Kind}
 use Rattle.qc_text.specs.declared.token.Token.{Token}
 use Rattle.qc_text.specs.Tokens.{IsTokenText, token_text}
 
-abbrev pub spaced : List (List ℕ) → List ℕ
+abbrev pub Words : Type 0
+Words = List (List ℕ)
+
+-- each word, and a blank after it
+abbrev pub spaced : Words → List ℕ
 spaced words = flat_map (λ word. word ++ 32 ∷ []) words
+
+pub spaced-append : (xs ys : Words) → spaced (xs ++ ys) ≡ spaced xs ++ spaced ys
+spaced-append [] ys = refl
+spaced-append (x ∷ xs) ys =
+    ap (λ bytes. (x ++ 32 ∷ []) ++ bytes) (spaced-append xs ys)
+    ∙ sym (append_assoc (x ++ 32 ∷ []) (spaced xs) (spaced ys))
+
+-- words of several things, with a separator between them
+abbrev pub joined : List ℕ → List Words → Words
+joined separator [] = []
+joined separator (x ∷ xs) = x ++ flat_map (λ y. separator ∷ y) xs
+
+-- those that have a separator before them
+pub after_separators : {X : Type 0} (separator : List ℕ) (words next : X → Words)
+    → ((x : X) → separator ∷ words x ≡ next x) → (xs : List X)
+    → flat_map (λ y. separator ∷ y) (map words xs) ≡ flat_map next xs
+after_separators separator words next each [] = refl
+after_separators separator words next each (x ∷ xs) =
+    ap (λ ws. ws ++ flat_map (λ y. separator ∷ y) (map words xs)) (each x)
+    ∙ ap (λ ws. next x ++ ws) (after_separators separator words next each xs)
 
 -- each is a kind and a text of it, which isn't empty
 abbrev pub AreWords : List (Kind × List ℕ) → Type 0

@@ -1,12 +1,15 @@
--- What the texts of a tree spell where tokens of a kind are spelled in one way: the law of a printer.
+-- What the texts of a tree spell where tokens of a kind are spelled in one way, and which trees are spelled alike: the
+-- law of a printer.
 use Rattle.std.specs.Prelude.{ℕ, zero, suc, ◌≡◌, List, [], ◌∷◌, ◌++◌, map}
 use Rattle.std.specs.List.{flat_map}
 use Rattle.std.proofs.Common.{refl, ap, sym, ◌∙◌, inl, inr, subst}
 use Rattle.std.proofs.lemmas.List.{map-append}
 use Rattle.qc_text.specs.declared.token.Kind.{Kind}
+use Rattle.qc_text.specs.declared.token.Kind.TheVariants.{Name, Punct}
+use Rattle.qc_text.specs.Tokens.{IsTokenText}
 use Rattle.qc_text.specs.Lexeme.{Class, Word, Any, Lexeme}
 use Rattle.qc_text.specs.Grammar.{Grammar, terminal, empty, sequence, choice, action, repetition, nonterminal, Syntax}
-use Rattle.qc_text.specs.Alike.{AreAlike}
+use Rattle.qc_text.specs.Alike.{AreAlike, AreAlikeTrees, AlikeTexts, texts_of_alike_trees}
 use Rattle.qc_text.specs.Language.{Phrases, PhraseBy, Derives, IsPhrase}
 
 module _ (as_text : Kind → List ℕ → List ℕ) where
@@ -25,14 +28,21 @@ module _ (as_text : Kind → List ℕ → List ℕ) where
   abbrev pub IsSpelledAlike : Lexeme → Lexeme → Type 0
   IsSpelledAlike t u = (t.class ≡ u.class) × (spelling t ≡ spelling u)
 
-  -- texts that are spelled alike spell the same
-  pub alike_spellings : (tokens others : List Lexeme) → AreAlike IsSpelledAlike tokens others
-      → spellings tokens ≡ spellings others
-  alike_spellings [] [] p = refl
-  alike_spellings [] (u ∷ us) p = absurd p
-  alike_spellings (t ∷ ts) [] p = absurd p
-  alike_spellings (t ∷ ts) (u ∷ us) p =
-      ap (λ word. word ∷ spellings ts) p.0.1 ∙ ap (λ words. spelling u ∷ words) (alike_spellings ts us p.1)
+-- The trees are the same but for the numbers of tokens: the grammar makes them by the same alternatives, from tokens of
+-- one class and one text each, where numerals may be written differently if they have the same value. Which texts count
+-- as one is what as_text says: those for which it gives one text.
+abbrev pub AreSameTrees : (Kind → List ℕ → List ℕ) → {I : Type 0} {E : I → Type 0} → Syntax I E → {A : Type 0}
+    → Grammar I E A → A → A → Type 0
+AreSameTrees as_text s g a b = AreAlikeTrees s (IsSpelledAlike as_text) g a b
+
+-- How tokens of each kind are respelled: names and punctuation stay, a text of a kind stays one, and what is respelled
+-- is respelled the same.
+pub record Respells (as_text : Kind → List ℕ → List ℕ) : Type 0 where
+  pub name : (given : List ℕ) → as_text Name given ≡ given
+  pub punct : (given : List ℕ) → as_text Punct given ≡ given
+  pub of_kind : (kind : Kind) (given : List ℕ) → IsTokenText kind given → IsTokenText kind (as_text kind given)
+  pub again : (kind : Kind) (given : List ℕ) → IsTokenText kind given
+      → as_text kind (as_text kind given) ≡ as_text kind given
 
 module _ (as_text : Kind → List ℕ → List ℕ) {I : Type 0} {E : I → Type 0} (W : (i : I) → E i → List (List ℕ)) where
   -- P holds of what each phrase spells and its tree, where a rule's tree spells what W says. Of a repetition one says
@@ -124,3 +134,24 @@ module _ (as_text : Kind → List ℕ → List ℕ) {I : Type 0} {E : I → Type
       → IsPhrase s g tokens tree → spellings as_text tokens ≡ printed tree
   texts_spell g printed e tokens tree p =
       spell_by p.depth (rule_spells p.depth) g tokens tree p.is (λ words x. words ≡ printed x) e
+
+-- texts that are spelled alike spell the same
+alike_spellings : (as_text : Kind → List ℕ → List ℕ) (tokens others : List Lexeme)
+    → AreAlike (IsSpelledAlike as_text) tokens others → spellings as_text tokens ≡ spellings as_text others
+alike_spellings as_text [] [] p = refl
+alike_spellings as_text [] (u ∷ us) p = absurd p
+alike_spellings as_text (t ∷ ts) [] p = absurd p
+alike_spellings as_text (t ∷ ts) (u ∷ us) p =
+    ap (λ word. word ∷ spellings as_text ts) p.0.1
+    ∙ ap (λ words. spelling as_text u ∷ words) (alike_spellings as_text ts us p.1)
+
+-- Trees that are the same but for the numbers of tokens have the same words, whatever words of a tree all its texts
+-- spell.
+pub same_words : (as_text : Kind → List ℕ → List ℕ) {I : Type 0} {E : I → Type 0} (s : Syntax I E) {A : Type 0}
+    (g : Grammar I E A) (words : A → List (List ℕ)) → ((tokens : List Lexeme) (tree : A) → IsPhrase s g tokens tree
+    → spellings as_text tokens ≡ words tree) → (a b : A) → AreSameTrees as_text s g a b → words a ≡ words b
+same_words as_text s g words spell a b same =
+    let found : AlikeTexts (IsSpelledAlike as_text) (IsPhrase s g) a b =
+    texts_of_alike_trees s (IsSpelledAlike as_text) g a b same in
+    sym (spell found.texts a found.first) ∙ alike_spellings as_text found.texts found.others found.are
+    ∙ spell found.others b found.second

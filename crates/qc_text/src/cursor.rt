@@ -3,12 +3,14 @@ ghost use Rattle.std.specs.Prelude.{◌≡◌, ◌<◌, ◌≤◌, ◌+◌, List
 ghost use Rattle.std.specs.Prelude.{slice_range, drop};
 ghost use Rattle.std.specs.List.{list_any};
 ghost use Rattle.std.specs.Str.{bytes_eq};
-ghost use Rattle.qc_text.specs.Lexeme.{Lexeme, Word, Any, lexemes_from, class_of, same_class, kind_number, next_text, next_number, lexemes};
-ghost use Rattle.qc_text.specs.Reading.{next_in, read_word, read_ident, read_end};
+ghost use Rattle.qc_text.specs.Lexeme.{Lexeme, Word, Any, lexemes_from, lexemes, class_of, same_class};
+ghost use Rattle.qc_text.specs.Lexeme.{kind_number, next_text, next_number};
+ghost use Rattle.qc_text.specs.Reading.{next_in, read_word, read_ident, read_number, read_end};
 ghost use Rattle.qc_text.specs.Gives.{Gives};
 ghost use Rattle.qc_text.specs.Inside.{InSource};
 ghost use Rattle.qc_text.specs.Brackets.{next_opens, next_closes};
 
+use crate::number::{Number, number_value};
 use crate::token::{Kind, Token};
 use sqlite_items::Items;
 use std::alloc::{AllocError, Global};
@@ -62,7 +64,8 @@ impl<'a> Model for Cursor<'a> {
 
     ghost view = { λ c. lexemes_from (map (λ x. x.now) c.reserved.now) c.source.now c.number c.rest.now };
 
-    ghost invariant = { λ c. InSource (length c.source.now) c.rest.now × (c.number + length c.rest.now ≤ 18446744073709551615) };
+    ghost invariant = { λ c. InSource (length c.source.now) c.rest.now
+        × (c.number + length c.rest.now ≤ 18446744073709551615) };
 }
 
 /// The word of a token is this one, where the grammar has these reserved words.
@@ -248,6 +251,22 @@ impl<'a> Cursor<'a> {
                 }),
                 Err(_) => Err(Stop::NoMemory),
             }
+        } else {
+            Err(self.stop())
+        }
+    }
+
+    /// Takes a number, and gives its value with the token's number.
+    pub fn number(&mut self) -> Result<Number, Stop>
+        ensures gives { Gives result self.old self.new read_number }
+        ensures shorter { OnOk result (length self.new < length self.old) }
+    {
+        if self.is_any(Kind::Number) {
+            let value = number_value(self.spelling());
+            Ok(Number {
+                token: self.take(),
+                value,
+            })
         } else {
             Err(self.stop())
         }

@@ -1,9 +1,7 @@
 //! The values of numerals.
 ghost use Rattle.std.specs.Prelude.{◌≡◌, ◌<◌, ◌≤◌, ◌^◌, min};
-ghost use Rattle.qc_text.specs.Numerals.{number_in, number_of, number_on};
+ghost use Rattle.qc_text.specs.Numerals.{number_of, number_on};
 ghost use Rattle.qc_text.specs.Numerals as spec;
-
-use crate::cursor::Ident;
 
 const LIMIT: u128 = 1 << 64;
 
@@ -49,18 +47,6 @@ pub fn number_value(text: &[u8]) -> u128
         capped(16, text.split_at(2).1)
     } else {
         capped(10, text)
-    }
-}
-
-impl Number {
-    /// The number of a token, whose text is given.
-    pub fn of(digits: &Ident) -> Number
-        ensures { result ≡ number_in digits.now }
-    {
-        Number {
-            token: digits.token,
-            value: number_value(digits.text.as_slice()),
-        }
     }
 }
 

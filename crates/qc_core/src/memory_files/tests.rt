@@ -1,26 +1,30 @@
 use super::*;
 use crate::memory_out::MemOut;
 use crate::outside::Out;
+use std::process::Abort;
 
 type Outcome = Result<(), NoMemory>;
 
-fn text(alloc: Global, name: &str) -> Result<String, NoMemory> {
-    String::from_str(alloc, name)
+/// A call of a shelf, and what is to come of it: a read of this content, or one that fails; a write that succeeds, or
+/// one that fails; or a file that isn't there.
+#[derive(Clone, Copy)]
+enum Step {
+    Read(&'static str, &'static [u8]),
+    FailedRead(&'static str),
+    Write(&'static str, &'static [u8]),
+    FailedWrite(&'static str, &'static [u8]),
+    Absent(&'static str),
 }
 
-fn shelf(
-    alloc: Global,
-    names: &[&str],
-    contents: &[&[u8]],
-    failing: &[u64],
-) -> Result<MemShelf, NoMemory> {
+fn shelf(alloc: Global, contents: &[(&str, &[u8])], failing: &[u64]) -> Result<MemShelf, NoMemory> {
     let mut files = Vec::new(alloc);
-    for (name, content) in names.iter().zip(contents) {
-        files.push((text(alloc, name)?, Vec::from_slice(alloc, content)?))?;
+    for (name, content) in contents {
+        files.push((
+            String::from_str(alloc, name)?,
+            Vec::from_slice(alloc, content)?,
+        ))?;
     }
-    let mut numbers = Vec::new(alloc);
-    numbers.extend_from_slice(failing)?;
-    Ok(MemShelf::new(files, numbers))
+    Ok(MemShelf::new(files, Vec::from_slice(alloc, failing)?))
 }
 
 fn is_content(read: &Result<Vec<u8>, ReadEnd>, content: &[u8]) -> bool {
@@ -30,71 +34,144 @@ fn is_content(read: &Result<Vec<u8>, ReadEnd>, content: &[u8]) -> bool {
     }
 }
 
-#[test]
-fn reads_the_first_of_a_name(rt: HostRuntime) -> Outcome {
-    let alloc = rt.alloc();
-    let mut files = shelf(alloc, &["a", "b", "a"], &[b"one", b"two", b"three"], &[])?;
-    let read = files.read(alloc, &text(alloc, "a")?);
-    assert!(rt; is_content(&read, b"one"));
-    let absent = files.read(alloc, &text(alloc, "c")?);
-    assert!(rt; matches!(absent, Err(ReadEnd::Failed)));
-    assert_eq!(rt; files.calls.faults, 1);
-    assert!(rt; files.file(&text(alloc, "c")?).is_none());
-    Ok(())
+fn read(
+    alloc: Global,
+    files: &mut MemShelf,
+    name: &str,
+) -> Result<Result<Vec<u8>, ReadEnd>, NoMemory> {
+    let name = String::from_str(alloc, name)?;
+    Ok(files.read(alloc, &name))
 }
 
-#[test]
-fn writes_over_the_first_of_a_name(rt: HostRuntime) -> Outcome {
-    let alloc = rt.alloc();
-    let mut files = shelf(alloc, &["a", "a"], &[b"one", b"two"], &[])?;
-    for (name, content) in [("a", b"four"), ("b", b"five")] {
-        let name = text(alloc, name)?;
-        assert!(rt; files.write(alloc, &name, content).is_ok());
-        let read = files.read(alloc, &name);
-        assert!(rt; is_content(&read, content));
+fn write(
+    alloc: Global,
+    files: &mut MemShelf,
+    name: &str,
+    content: &[u8],
+) -> Result<Result<(), StoreEnd>, NoMemory> {
+    let name = String::from_str(alloc, name)?;
+    Ok(files.write(alloc, &name, content))
+}
+
+fn is_absent(alloc: Global, files: &MemShelf, name: &str) -> Result<bool, NoMemory> {
+    let name = String::from_str(alloc, name)?;
+    Ok(files.file(&name).is_none())
+}
+
+/// Does a call, and tells whether what is to come of it came.
+fn does(alloc: Global, files: &mut MemShelf, step: Step) -> Result<bool, NoMemory> {
+    match step {
+        Step::Read(name, content) => Ok(is_content(&read(alloc, files, name)?, content)),
+        Step::FailedRead(name) => Ok(matches!(read(alloc, files, name)?, Err(ReadEnd::Failed))),
+        Step::Write(name, content) => Ok(write(alloc, files, name, content)?.is_ok()),
+        Step::FailedWrite(name, content) => Ok(matches!(
+            write(alloc, files, name, content)?,
+            Err(StoreEnd::Failed)
+        )),
+        Step::Absent(name) => is_absent(alloc, files, name),
     }
-    assert_eq!(rt; files.files.len(), 3);
+}
+
+/// A name, the files of a shelf, the numbers of the calls that fail, calls, and how many faults and files there are at
+/// the end.
+type Row = (
+    &'static str,
+    &'static [(&'static str, &'static [u8])],
+    &'static [u64],
+    &'static [Step],
+    u64,
+    usize,
+);
+
+const ROWS: [Row; 3] = [
+    (
+        "the first of a name is read",
+        &[("a", b"one"), ("b", b"two"), ("a", b"three")],
+        &[],
+        &[
+            Step::Read("a", b"one"),
+            Step::FailedRead("c"),
+            Step::Absent("c"),
+        ],
+        1,
+        3,
+    ),
+    (
+        "the first of a name is written over",
+        &[("a", b"one"), ("a", b"two")],
+        &[],
+        &[
+            Step::Write("a", b"four"),
+            Step::Read("a", b"four"),
+            Step::Write("b", b"five"),
+            Step::Read("b", b"five"),
+        ],
+        0,
+        3,
+    ),
+    (
+        "the chosen calls fail",
+        &[("a", b"one")],
+        &[2, 3],
+        &[
+            Step::Read("a", b"one"),
+            Step::FailedRead("a"),
+            Step::FailedWrite("a", b"two"),
+            Step::Read("a", b"one"),
+        ],
+        2,
+        1,
+    ),
+];
+
+fn expect(rt: &impl Abort, alloc: Global, row: &Row) -> Outcome {
+    let &(name, contents, failing, steps, faults, count) = row;
+    let mut files = shelf(alloc, contents, failing)?;
+    for step in steps {
+        assert!(rt; does(alloc, &mut files, *step)?, "{name}");
+    }
+    assert_eq!(rt; files.calls.faults, faults, "{name}");
+    assert_eq!(rt; files.files.len(), count, "{name}");
     Ok(())
 }
 
 #[test]
-fn fails_at_the_chosen_calls(rt: HostRuntime) -> Outcome {
-    let alloc = rt.alloc();
-    let name = text(alloc, "a")?;
-    let mut files = shelf(alloc, &["a"], &[b"one"], &[2, 3])?;
-    assert!(rt; files.read(alloc, &name).is_ok());
-    let second = files.read(alloc, &name);
-    assert!(rt; matches!(second, Err(ReadEnd::Failed)));
-    let third = files.write(alloc, &name, b"two");
-    assert!(rt; matches!(third, Err(StoreEnd::Failed)));
-    let fourth = files.read(alloc, &name);
-    assert!(rt; is_content(&fourth, b"one"));
-    assert_eq!(rt; files.calls.faults, 2);
+fn calls_of_a_shelf(rt: HostRuntime) -> Outcome {
+    for row in &ROWS {
+        expect(&rt, rt.alloc(), row)?;
+    }
     Ok(())
 }
+
+/// Pieces that are put, the first at a call that fails.
+const PIECES: [(&[u8], bool); 3] = [(b"one", true), (b"two", false), (b"three", false)];
 
 #[test]
 fn puts_nothing_at_a_chosen_call(rt: HostRuntime) -> Outcome {
     let alloc = rt.alloc();
-    let mut out = MemOut::new(alloc, vec![in alloc; 1]?);
-    let first = out.put(alloc, b"one");
-    assert!(rt; matches!(first, Err(StoreEnd::Failed)));
-    assert!(rt; out.put(alloc, b"two").is_ok());
-    assert!(rt; out.put(alloc, b"three").is_ok());
+    let mut out = MemOut::new(alloc, Vec::from_slice(alloc, &[1])?);
+    for (piece, fails) in PIECES {
+        let put = out.put(alloc, piece);
+        assert_eq!(rt; matches!(put, Err(StoreEnd::Failed)), fails);
+        assert_eq!(rt; put.is_ok(), !fails);
+    }
     assert!(rt; out.written() == b"twothree".as_slice());
+    Ok(())
+}
+
+/// Whether a file of so many zero bytes is read, or else is too long.
+fn expect_size(rt: &impl Abort, alloc: Global, size: usize, fits: bool) -> Outcome {
+    let mut content = Vec::new(alloc);
+    content.resize(size, 0u8)?;
+    let mut files = shelf(alloc, &[("a", content.as_slice())], &[])?;
+    let found = read(alloc, &mut files, "a")?;
+    assert_eq!(rt; found.is_ok(), fits, "at {size}");
+    assert_eq!(rt; matches!(found, Err(ReadEnd::TooLong)), !fits, "at {size}");
     Ok(())
 }
 
 #[test]
 fn refuses_a_file_past_the_limit(rt: HostRuntime) -> Outcome {
-    let alloc = rt.alloc();
-    let name = text(alloc, "a")?;
-    for (size, fits) in [(4_194_304, true), (4_194_305, false)] {
-        let content = vec![in alloc; 0u8; size]?;
-        let mut files = shelf(alloc, &["a"], &[content.as_slice()], &[])?;
-        let read = files.read(alloc, &name);
-        assert_eq!(rt; read.is_ok(), fits, "at {size}");
-        assert_eq!(rt; matches!(read, Err(ReadEnd::TooLong)), !fits, "at {size}");
-    }
-    Ok(())
+    expect_size(&rt, rt.alloc(), 4_194_304, true)?;
+    expect_size(&rt, rt.alloc(), 4_194_305, false)
 }

@@ -2,13 +2,71 @@
 
 use super::*;
 
-/// A number of so many bits.
-fn number(value: u64, bits: u8) -> Result<Term, Fail> {
-    let width = Width::new(bits).ok_or("width")?;
-    Ok(Term::Num { value, width })
+/// A part of a term that is written in postfix order: a number, an operand, the word at the address before it, the next
+/// word of the input or the address after, of so many bits; or an operator over the one or two terms before it.
+#[derive(Clone, Copy)]
+enum Part {
+    Number(u8),
+    Operand(u8),
+    Load(u8),
+    Input(u8),
+    After(u8),
+    Complement,
+    Zx(u8),
+    Sx(u8),
+    /// The first bit, and the count of bits.
+    Slice(u8, u8),
+    Add,
+    Sub,
+    Xor,
+    Eq,
+    Ltu,
 }
 
-fn binary(alloc: Global, op: Op, left: Term, right: Term) -> Result<Term, Fail> {
+use Part::{
+    Add, After, Complement, Eq, Input, Load, Ltu, Number, Operand, Slice, Sub, Sx, Xor, Zx,
+};
+
+/// Terms in postfix order, and the width of each, or the two widths of its first clash.
+const ROWS: [(&[Part], Result<u8, (u8, u8)>); 16] = [
+    (&[Number(5), Number(5), Add], Ok(5)),
+    (&[Number(8), Number(8), Ltu], Ok(1)),
+    (&[Number(7), Complement], Ok(7)),
+    (&[Number(32), Zx(32)], Ok(32)),
+    (&[Number(8), Slice(3, 5)], Ok(5)),
+    (&[Operand(5), Number(6), Add], Err((5, 6))),
+    (&[Number(5), Zx(4)], Err((5, 4))),
+    (&[Number(64), Sx(4)], Err((64, 4))),
+    (&[Number(7), Slice(3, 5)], Err((7, 8))),
+    (&[Number(64), Slice(1, 64)], Err((64, 65))),
+    (&[Number(5), Slice(255, 64)], Err((5, 65))),
+    (
+        &[Number(3), Number(4), Add, Number(5), Number(6), Add, Xor],
+        Err((3, 4)),
+    ),
+    (
+        &[Number(3), Number(3), Add, Number(5), Number(6), Add, Xor],
+        Err((5, 6)),
+    ),
+    (
+        &[Number(3), Number(3), Add, Number(5), Number(5), Add, Eq],
+        Err((3, 5)),
+    ),
+    (&[Number(31), Number(32), Add, Load(32)], Err((31, 32))),
+    (&[Input(32), After(32), Sub], Ok(32)),
+];
+
+fn unary(alloc: Global, op: Op, before: &mut Vec<Term>) -> Result<Term, Fail> {
+    let arg = before.pop().ok_or("no operand")?;
+    Ok(Term::Un {
+        op,
+        arg: Boxed::new(alloc, arg)?,
+    })
+}
+
+fn binary(alloc: Global, op: Op, before: &mut Vec<Term>) -> Result<Term, Fail> {
+    let right = before.pop().ok_or("no operand")?;
+    let left = before.pop().ok_or("no operand")?;
     Ok(Term::Bin {
         op,
         left: Boxed::new(alloc, left)?,
@@ -16,111 +74,67 @@ fn binary(alloc: Global, op: Op, left: Term, right: Term) -> Result<Term, Fail> 
     })
 }
 
-fn unary(alloc: Global, op: Op, arg: Term) -> Result<Term, Fail> {
-    Ok(Term::Un {
-        op,
-        arg: Boxed::new(alloc, arg)?,
+fn load(alloc: Global, width: Width, before: &mut Vec<Term>) -> Result<Term, Fail> {
+    let address = before.pop().ok_or("no address")?;
+    Ok(Term::Mem {
+        width,
+        address: Boxed::new(alloc, address)?,
     })
 }
 
-/// A sum of two numbers of these widths.
-fn sum(alloc: Global, left: u8, right: u8) -> Result<Term, Fail> {
-    binary(alloc, Op::Add, number(1, left)?, number(1, right)?)
+fn bits(count: u8) -> Result<Width, Fail> {
+    Ok(Width::new(count).ok_or("width")?)
 }
 
-fn expect_width(rt: &impl Abort, term: &Term, want: u8) -> Result<(), Fail> {
-    let found = width_of(term).map(|width| width.bits());
-    assert_eq!(rt; found, Ok(want), "{term:?}");
-    Ok(())
+/// The term that ends with a part, over the terms before it.
+fn ended(alloc: Global, part: Part, before: &mut Vec<Term>) -> Result<Term, Fail> {
+    match part {
+        Number(width) => Ok(Term::Num {
+            value: 1,
+            width: bits(width)?,
+        }),
+        Operand(width) => Ok(Term::Imm {
+            operand: 0,
+            width: bits(width)?,
+        }),
+        Input(width) => Ok(Term::Input {
+            width: bits(width)?,
+        }),
+        After(width) => Ok(Term::After {
+            width: bits(width)?,
+        }),
+        Load(width) => load(alloc, bits(width)?, before),
+        Complement => unary(alloc, Op::Com, before),
+        Zx(to) => unary(alloc, Op::Zx { to: bits(to)? }, before),
+        Sx(to) => unary(alloc, Op::Sx { to: bits(to)? }, before),
+        Slice(low, to) => unary(alloc, Op::Slice { low, to: bits(to)? }, before),
+        Add => binary(alloc, Op::Add, before),
+        Sub => binary(alloc, Op::Sub, before),
+        Xor => binary(alloc, Op::Xor, before),
+        Eq => binary(alloc, Op::Eq, before),
+        Ltu => binary(alloc, Op::Ltu, before),
+    }
 }
 
-fn expect_clash(rt: &impl Abort, term: &Term, a: u8, b: u8) -> Result<(), Fail> {
-    assert_eq!(rt; width_of(term), Err(WidthClash { a, b }), "{term:?}");
-    Ok(())
-}
-
-#[test]
-fn widths_of_operators(rt: HostRuntime) -> Result<(), Fail> {
-    let alloc = rt.alloc();
-    let word = Width::new(32).ok_or("width")?;
-    let five = Width::new(5).ok_or("width")?;
-    let four = Width::new(4).ok_or("width")?;
-    let full = Width::new(64).ok_or("width")?;
-    expect_width(&rt, &sum(alloc, 5, 5)?, 5)?;
-    expect_width(
-        &rt,
-        &binary(alloc, Op::Ltu, number(1, 8)?, number(2, 8)?)?,
-        1,
-    )?;
-    expect_width(&rt, &unary(alloc, Op::Com, number(1, 7)?)?, 7)?;
-    expect_width(&rt, &unary(alloc, Op::Zx { to: word }, number(1, 32)?)?, 32)?;
-    expect_width(
-        &rt,
-        &unary(alloc, Op::Slice { low: 3, to: five }, number(1, 8)?)?,
-        5,
-    )?;
-    let immediate = Term::Imm {
-        operand: 0,
-        width: five,
-    };
-    expect_clash(
-        &rt,
-        &binary(alloc, Op::Add, immediate, number(1, 6)?)?,
-        5,
-        6,
-    )?;
-    expect_clash(
-        &rt,
-        &unary(alloc, Op::Zx { to: four }, number(1, 5)?)?,
-        5,
-        4,
-    )?;
-    expect_clash(
-        &rt,
-        &unary(alloc, Op::Sx { to: four }, number(1, 64)?)?,
-        64,
-        4,
-    )?;
-    expect_clash(
-        &rt,
-        &unary(alloc, Op::Slice { low: 3, to: five }, number(1, 7)?)?,
-        7,
-        8,
-    )?;
-    expect_clash(
-        &rt,
-        &unary(alloc, Op::Slice { low: 1, to: full }, number(1, 64)?)?,
-        64,
-        65,
-    )?;
-    expect_clash(
-        &rt,
-        &unary(alloc, Op::Slice { low: 255, to: full }, number(1, 5)?)?,
-        5,
-        65,
-    )
+/// The term of parts in postfix order.
+fn term_of(alloc: Global, parts: &[Part]) -> Result<Term, Fail> {
+    let mut terms = Vec::new(alloc);
+    for part in parts {
+        let term = ended(alloc, *part, &mut terms)?;
+        terms.push(term)?;
+    }
+    Ok(terms.pop().ok_or("no term")?)
 }
 
 #[test]
-fn the_first_clash_in_post_order(rt: HostRuntime) -> Result<(), Fail> {
-    let alloc = rt.alloc();
-    let word = Width::new(32).ok_or("width")?;
-    let both = binary(alloc, Op::Xor, sum(alloc, 3, 4)?, sum(alloc, 5, 6)?)?;
-    expect_clash(&rt, &both, 3, 4)?;
-    let right = binary(alloc, Op::Xor, sum(alloc, 3, 3)?, sum(alloc, 5, 6)?)?;
-    expect_clash(&rt, &right, 5, 6)?;
-    let own = binary(alloc, Op::Eq, sum(alloc, 3, 3)?, sum(alloc, 5, 5)?)?;
-    expect_clash(&rt, &own, 3, 5)?;
-    let address = Term::Mem {
-        width: word,
-        address: Boxed::new(alloc, sum(alloc, 31, 32)?)?,
-    };
-    expect_clash(&rt, &address, 31, 32)?;
-    let inputs = binary(
-        alloc,
-        Op::Sub,
-        Term::Input { width: word },
-        Term::After { width: word },
-    )?;
-    expect_width(&rt, &inputs, 32)
+fn widths_and_clashes(rt: HostRuntime) -> Result<(), Fail> {
+    for (parts, want) in ROWS {
+        let term = term_of(rt.alloc(), parts)?;
+        let found = match width_of(&term) {
+            Ok(width) => Ok(width.bits()),
+            Err(WidthClash { a, b }) => Err((a, b)),
+        };
+        assert!(rt; found == want, "{term:?}");
+    }
+    Ok(())
 }

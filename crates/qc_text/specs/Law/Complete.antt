@@ -30,15 +30,21 @@ module _ {I : Type 0} {E : I → Type 0} (s : Syntax I E) (clean : IsClean s) wh
   complete_many n g e token d one [] tokens rest p f =
       ap (λ ts. many (reads s g) (first s g) (ts ++ rest)) p
       ∙ step (reads s g) (first s g) (consumes_by s clean g (reads s g) (exact s clean g e) token) rest
-      ∙ ap (λ b. cond b (one_more (reads s g) (many (reads s g) (first s g)) rest) (Ok ([], rest))) (next_first (first s g) (follow s g) rest f)
+      ∙ ap (λ b. cond b (one_more (reads s g) (many (reads s g) (first s g)) rest) (Ok ([], rest)))
+      (next_first (first s g) (follow s g) rest f)
   complete_many n {A} g e token d one (x ∷ xs) tokens rest p f =
       ap (λ ts. many (reads s g) (first s g) (ts ++ rest)) p.2
       ∙ ap (many (reads s g) (first s g)) (append_assoc p.0 p.1 rest)
-      ∙ step (reads s g) (first s g) (consumes_by s clean g (reads s g) (exact s clean g e) token) (p.0 ++ (p.1 ++ rest))
-      ∙ ap (λ b. cond b (one_more (reads s g) (many (reads s g) (first s g)) (p.0 ++ (p.1 ++ rest))) (Ok ([], p.0 ++ (p.1 ++ rest)))) (begins p.0 p.3)
-      ∙ ap (λ r. then_read {A = A × List A} (then_read r (λ y last. then_read (many (reads s g) (first s g) last) (λ ys end. Ok ((y, ys), end)))) (λ q last. Ok (q.0 ∷ q.1, last)))
+      ∙ step (reads s g) (first s g) (consumes_by s clean g (reads s g) (exact s clean g e) token)
+      (p.0 ++ (p.1 ++ rest))
+      ∙ ap (λ b. cond b (one_more (reads s g) (many (reads s g) (first s g)) (p.0 ++ (p.1 ++ rest)))
+      (Ok ([], p.0 ++ (p.1 ++ rest)))) (begins p.0 p.3)
+      ∙ ap (λ r. then_read {A = A × List A}
+      (then_read r (λ y last. then_read (many (reads s g) (first s g) last) (λ ys end. Ok ((y, ys), end))))
+      (λ q last. Ok (q.0 ∷ q.1, last)))
       (one p.0 x (p.1 ++ rest) p.3 (middle p.1 p.4))
-      ∙ ap (λ r. then_read {A = A × List A} (then_read r (λ ys end. Ok ((x, ys), end))) (λ q last. Ok (q.0 ∷ q.1, last)))
+      ∙ ap (λ r. then_read {A = A × List A} (then_read r (λ ys end. Ok ((x, ys), end)))
+      (λ q last. Ok (q.0 ∷ q.1, last)))
       (complete_many n g e token d one xs p.1 rest p.4 f)
     where
       begins : (ts : List Lexeme) → PhraseBy (Derives s n) g ts x → next_in (first s g) (ts ++ (p.1 ++ rest)) ≡ true
@@ -49,7 +55,8 @@ module _ {I : Type 0} {E : I → Type 0} (s : Syntax I E) (clean : IsClean s) wh
       middle [] q = next_second (first s g) (follow s g) rest f
       middle (t ∷ ts) q =
           apart_first (follow s g) (first s g) t.class d
-          (phrases_first (PhraseBy (Derives s n) g) (first s g) (phrase_first (Derives s n) _ (no_empty s clean n) (rule_head s clean n) g) xs t ts q)
+          (phrases_first (PhraseBy (Derives s n) g) (first s g)
+          (phrase_first (Derives s n) _ (no_empty s clean n) (rule_head s clean n) g) xs t ts q)
 
   pub complete_by : (n : ℕ) → ((i : I) (tokens : List Lexeme) (tree : E i) (rest : List Lexeme)
       → Derives s n i tokens tree → next_in (s.goes_on i) rest ≡ false
@@ -69,28 +76,36 @@ module _ {I : Type 0} {E : I → Type 0} (s : Syntax I E) (clean : IsClean s) wh
       ∙ ap (λ r. then_read r (λ x rest. then_read (reads s h rest) (λ y last. Ok ((x, y), last))))
       (complete_by n rules g each.0 p.0 tree.0 (p.1 ++ rest) p.3 (middle parts.1 p.1 p.4))
       ∙ ap (λ r. then_read r (λ y last. Ok ((tree.0, y), last)))
-      (complete_by n rules h each.1 p.1 tree.1 rest p.4 (next_first (follow s h) (cond (can_be_empty h) (follow s g) []) rest f))
+      (complete_by n rules h each.1 p.1 tree.1 rest p.4
+      (next_first (follow s h) (cond (can_be_empty h) (follow s g) []) rest f))
     where
       middle : are_apart (follow s g) (first s h) ≡ true → (ts : List Lexeme) → PhraseBy (Derives s n) h ts tree.1
           → next_in (follow s g) (ts ++ rest) ≡ false
       middle d [] q =
-          ap (λ b. next_in (cond b (follow s g) []) rest) (sym (empty_phrase (Derives s n) (no_empty s clean n) h tree.1 q))
+          ap (λ b. next_in (cond b (follow s g) []) rest)
+          (sym (empty_phrase (Derives s n) (no_empty s clean n) h tree.1 q))
           ∙ next_second (follow s h) (cond (can_be_empty h) (follow s g) []) rest f
       middle d (t ∷ ts) q =
-          apart_first (follow s g) (first s h) t.class d (phrase_first (Derives s n) _ (no_empty s clean n) (rule_head s clean n) h t ts tree.1 q)
+          apart_first (follow s g) (first s h) t.class d
+          (phrase_first (Derives s n) _ (no_empty s clean n) (rule_head s clean n) h t ts tree.1 q)
   complete_by n rules (choice g h) e tokens tree rest p f =
-      let parts : (is_clean s g && is_clean s h && not (can_be_empty g) ≡ true) × (are_apart (first s g) (first s h) ≡ true) = both_true e in
+      let parts : (is_clean s g && is_clean s h && not (can_be_empty g) ≡ true)
+      × (are_apart (first s g) (first s h) ≡ true) = both_true e in
       let parts2 : (is_clean s g && is_clean s h ≡ true) × (not (can_be_empty g) ≡ true) = both_true parts.0 in
       let each : (is_clean s g ≡ true) × (is_clean s h ≡ true) = both_true parts2.0 in
       let after_h : next_in (follow s h ++ cond (can_be_empty h) (first s g) []) rest ≡ false =
       next_second (follow s g) (follow s h ++ cond (can_be_empty h) (first s g) []) rest f in
       elim p [
         | inl q ↦
-            ap (λ b. cond b (reads s g (tokens ++ rest)) (reads s h (tokens ++ rest))) (first_of (not_true parts2.1) tokens q)
-            ∙ complete_by n rules g each.0 tokens tree rest q (next_first (follow s g) (follow s h ++ cond (can_be_empty h) (first s g) []) rest f)
+            ap (λ b. cond b (reads s g (tokens ++ rest)) (reads s h (tokens ++ rest)))
+            (first_of (not_true parts2.1) tokens q)
+            ∙ complete_by n rules g each.0 tokens tree rest q
+            (next_first (follow s g) (follow s h ++ cond (can_be_empty h) (first s g) []) rest f)
         | inr q ↦
-            ap (λ b. cond b (reads s g (tokens ++ rest)) (reads s h (tokens ++ rest))) (not_first parts.1 after_h tokens q)
-            ∙ complete_by n rules h each.1 tokens tree rest q (next_first (follow s h) (cond (can_be_empty h) (first s g) []) rest after_h)
+            ap (λ b. cond b (reads s g (tokens ++ rest)) (reads s h (tokens ++ rest)))
+            (not_first parts.1 after_h tokens q)
+            ∙ complete_by n rules h each.1 tokens tree rest q
+            (next_first (follow s h) (cond (can_be_empty h) (first s g) []) rest after_h)
       ]
     where
       first_of : can_be_empty g ≡ false → (ts : List Lexeme) → PhraseBy (Derives s n) g ts tree
@@ -102,14 +117,18 @@ module _ {I : Type 0} {E : I → Type 0} (s : Syntax I E) (clean : IsClean s) wh
           → next_in (follow s h ++ cond (can_be_empty h) (first s g) []) rest ≡ false → (ts : List Lexeme)
           → PhraseBy (Derives s n) h ts tree → next_in (first s g) (ts ++ rest) ≡ false
       not_first d k [] q =
-          ap (λ b. next_in (cond b (first s g) []) rest) (sym (empty_phrase (Derives s n) (no_empty s clean n) h tree q))
+          ap (λ b. next_in (cond b (first s g) []) rest)
+          (sym (empty_phrase (Derives s n) (no_empty s clean n) h tree q))
           ∙ next_second (follow s h) (cond (can_be_empty h) (first s g) []) rest k
       not_first d k (t ∷ ts) q =
-          apart_first (first s g) (first s h) t.class d (phrase_first (Derives s n) _ (no_empty s clean n) (rule_head s clean n) h t ts tree q)
+          apart_first (first s g) (first s h) t.class d
+          (phrase_first (Derives s n) _ (no_empty s clean n) (rule_head s clean n) h t ts tree q)
   complete_by n rules (action h g) e tokens tree rest p f =
-      ap (λ r. then_read r (λ x last. Ok (h x, last))) (complete_by n rules g e tokens p.0 rest p.1 f) ∙ ap (λ y. Ok (y, rest)) (sym p.2)
+      ap (λ r. then_read r (λ x last. Ok (h x, last))) (complete_by n rules g e tokens p.0 rest p.1 f)
+      ∙ ap (λ y. Ok (y, rest)) (sym p.2)
   complete_by n rules (repetition g) e tokens tree rest p f =
-      let parts : (is_clean s g && not (can_be_empty g) ≡ true) × (are_apart (follow s g) (first s g) ≡ true) = both_true e in
+      let parts : (is_clean s g && not (can_be_empty g) ≡ true) × (are_apart (follow s g) (first s g) ≡ true) =
+      both_true e in
       let each : (is_clean s g ≡ true) × (not (can_be_empty g) ≡ true) = both_true parts.0 in
       complete_many n g each.0 (not_true each.1) parts.1 (complete_by n rules g each.0) tree tokens rest p f
   complete_by n rules (nonterminal i) e tokens tree rest p f = rules i tokens tree rest p f

@@ -17,7 +17,8 @@ ended_from reserved source number (last ∷ []) e =
       end = ap (λ k. class_of reserved k (slice_range source last.start last.end)) e;
     }
 ended_from reserved source number (token ∷ next ∷ tokens) e =
-    let rest : EndsText (lexemes_from reserved source (suc number) (next ∷ tokens)) = ended_from reserved source (suc number) (next ∷ tokens) e in
+    let rest : EndsText (lexemes_from reserved source (suc number) (next ∷ tokens)) =
+    ended_from reserved source (suc number) (next ∷ tokens) e in
     record {
       front = lexeme_of reserved source number token ∷ rest.front;
       last = rest.last;

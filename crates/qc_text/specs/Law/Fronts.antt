@@ -28,36 +28,50 @@ module _ {I : Type 0} {E : I → Type 0} (s : Syntax I E) where
   pub begins_front : {A : Type 0} (g : Grammar I E A) (front rest : List Lexeme) → Begins s g (front ++ rest)
       → Begins s g front
   begins_front g front rest b =
-      record { more = rest ++ b.more; tree = b.tree; phrase = subst (λ ts. IsPhrase s g ts b.tree) (append_assoc front rest b.more) b.phrase }
+      record {
+        more = rest ++ b.more;
+        tree = b.tree;
+        phrase =
+            subst (λ ts. IsPhrase s g ts b.tree) (append_assoc front rest b.more) b.phrase;
+      }
 
   pub begins_take : {A : Type 0} (g : Grammar I E A) (tokens : List Lexeme) (j m : ℕ) → j ≤ m
       → Begins s g (take m tokens) → Begins s g (take j tokens)
   begins_take g tokens j m le b =
       subst (Begins s g) (take-take j m tokens le)
-      (begins_front g (take j (take m tokens)) (drop j (take m tokens)) (subst (Begins s g) (sym (take-append-drop j (take m tokens))) b))
+      (begins_front g (take j (take m tokens)) (drop j (take m tokens))
+      (subst (Begins s g) (sym (take-append-drop j (take m tokens))) b))
 
   pub phrase_begins : {A : Type 0} (g : Grammar I E A) (tokens : List Lexeme) (tree : A) → IsPhrase s g tokens tree
       → (j : ℕ) → Begins s g (take j tokens)
   phrase_begins g tokens tree p j =
-      record { more = drop j tokens; tree = tree; phrase = subst (λ ts. IsPhrase s g ts tree) (sym (take-append-drop j tokens)) p }
+      record {
+        more = drop j tokens;
+        tree = tree;
+        phrase =
+            subst (λ ts. IsPhrase s g ts tree) (sym (take-append-drop j tokens)) p;
+      }
 
 -- a front of shallow tokens is shallow
 pub shallow_front : (n : ℕ) (front rest : List Lexeme) → is_shallow n (front ++ rest) ≡ true → is_shallow n front ≡ true
 shallow_front n [] rest e = refl
 shallow_front n (t ∷ ts) rest e =
-    let parts : (nat_le (open_after n t) 200 ≡ true) × (is_shallow (open_after n t) (ts ++ rest) ≡ true) = both_true e in
+    let parts : (nat_le (open_after n t) 200 ≡ true) × (is_shallow (open_after n t) (ts ++ rest) ≡ true) =
+    both_true e in
     ap (λ b. b && is_shallow (open_after n t) ts) parts.0 ∙ shallow_front (open_after n t) ts rest parts.1
 
 pub shallow_take : (n : ℕ) (tokens : List Lexeme) (j m : ℕ) → j ≤ m → is_shallow n (take m tokens) ≡ true
     → is_shallow n (take j tokens) ≡ true
 shallow_take n tokens j m le e =
     subst (λ ts. is_shallow n ts ≡ true) (take-take j m tokens le)
-    (shallow_front n (take j (take m tokens)) (drop j (take m tokens)) (subst (λ ts. is_shallow n ts ≡ true) (sym (take-append-drop j (take m tokens))) e))
+    (shallow_front n (take j (take m tokens)) (drop j (take m tokens))
+    (subst (λ ts. is_shallow n ts ≡ true) (sym (take-append-drop j (take m tokens))) e))
 
 pub shallow_all : (n : ℕ) (tokens : List Lexeme) (j : ℕ) → is_shallow n tokens ≡ true
     → is_shallow n (take j tokens) ≡ true
 shallow_all n tokens j e =
-    shallow_front n (take j tokens) (drop j tokens) (subst (λ ts. is_shallow n ts ≡ true) (sym (take-append-drop j tokens)) e)
+    shallow_front n (take j tokens) (drop j tokens)
+    (subst (λ ts. is_shallow n ts ≡ true) (sym (take-append-drop j tokens)) e)
 
 -- the search for the first bracket that is too deep
 pub none_too_deep : (n : ℕ) (tokens : List Lexeme) → first_too_deep n tokens ≡ None → is_shallow n tokens ≡ true
@@ -93,7 +107,8 @@ some_too_deep n (t ∷ ts) k e = go (nat_le (open_after n t) 200) refl e (some_t
         → first_too_deep (open_after n t) ts ≡ Some j → FirstTooDeep (open_after n t) ts j)
         → FirstTooDeep n (t ∷ ts) k
     go true here f more =
-        let found : (j : ℕ) × (first_too_deep (open_after n t) ts ≡ Some j) × (k ≡ suc j) = back (first_too_deep (open_after n t) ts) f in
+        let found : (j : ℕ) × (first_too_deep (open_after n t) ts ≡ Some j) × (k ≡ suc j) =
+        back (first_too_deep (open_after n t) ts) f in
         let rest : FirstTooDeep (open_after n t) ts found.0 = more found.0 found.1 in
         subst (FirstTooDeep n (t ∷ ts)) (sym found.2)
         (record {
@@ -129,7 +144,9 @@ module _ {I : Type 0} {E : I → Type 0} (s : Syntax I E) (clean : IsClean s) wh
   no_end_by n rules (empty x) e tokens tree p = ap has_end p.0
   no_end_by n rules (sequence g h) e tokens tree p =
       let each : (is_endless g ≡ true) × (is_endless h ≡ true) = both_true e in
-      ap has_end p.2 ∙ no_end_append p.0 p.1 (no_end_by n rules g each.0 p.0 tree.0 p.3) (no_end_by n rules h each.1 p.1 tree.1 p.4)
+      ap has_end p.2
+      ∙ no_end_append p.0 p.1 (no_end_by n rules g each.0 p.0 tree.0 p.3)
+      (no_end_by n rules h each.1 p.1 tree.1 p.4)
   no_end_by n rules (choice g h) e tokens tree p =
       let each : (is_endless g ≡ true) × (is_endless h ≡ true) = both_true e in
       elim p [
@@ -137,13 +154,15 @@ module _ {I : Type 0} {E : I → Type 0} (s : Syntax I E) (clean : IsClean s) wh
         | inr q ↦ no_end_by n rules h each.1 tokens tree q
       ]
   no_end_by n rules (action f g) e tokens tree p = no_end_by n rules g e tokens p.0 p.1
-  no_end_by n rules (repetition g) e tokens tree p = no_ends (PhraseBy (Derives s n) g) (no_end_by n rules g e) tree tokens p
+  no_end_by n rules (repetition g) e tokens tree p =
+      no_ends (PhraseBy (Derives s n) g) (no_end_by n rules g e) tree tokens p
   no_end_by n rules (nonterminal i) e tokens tree p = rules i tokens tree p
 
   no_end_in_rule : (n : ℕ) (i : I) (tokens : List Lexeme) (tree : E i) → Derives s n i tokens tree
       → has_end tokens ≡ false
   no_end_in_rule zero i tokens tree p = absurd p
-  no_end_in_rule (suc n) i tokens tree p = no_end_by n (no_end_in_rule n) (s.rule i) (rule_facts s clean i).endless tokens tree p
+  no_end_in_rule (suc n) i tokens tree p =
+      no_end_by n (no_end_in_rule n) (s.rule i) (rule_facts s clean i).endless tokens tree p
 
   -- no token of a phrase is the end
   pub no_end_inside : {A : Type 0} (g : Grammar I E A) → is_endless g ≡ true → (tokens : List Lexeme) (tree : A)

@@ -37,7 +37,11 @@ module _ {I : Type 0} {E : I → Type 0} (s : Syntax I E) (clean : IsClean s) wh
           → Within k h x.1
       go [] e q (inl f) =
           let parts : (is_guarded g ≡ true) × (cond (can_be_empty g) (is_guarded h) true ≡ true) = both_true f.0 in
-          inl (ap (λ b. cond b (is_guarded h) true) (sym (no_empty_phrase s clean g x.0 q)) ∙ parts.1, omega (arith, ap length e, f.1))
+          inl (
+            ap (λ b. cond b (is_guarded h) true) (sym (no_empty_phrase s clean g x.0 q))
+                ∙ parts.1,
+            omega (arith, ap length e, f.1),
+          )
       go [] e q (inr f) = inr (omega (arith, ap length e, f))
       go (t ∷ ts) e q (inl f) = inr (omega (arith, ap length e, length-append ts x.1, f.1))
       go (t ∷ ts) e q (inr f) = inr (omega (arith, ap length e, length-append ts x.1, f))
@@ -49,7 +53,8 @@ module _ {I : Type 0} {E : I → Type 0} (s : Syntax I E) (clean : IsClean s) wh
       → repeated read (first s g) m tokens ≡ repeated other (first s g) m tokens
   same_repeated k g read other same consumes zero tokens w = refl
   same_repeated k g read other same consumes (suc m) tokens w =
-      ap (λ r. cond (next_in (first s g) tokens) r (Ok ([], tokens))) (ap (λ r. then_read r (λ x rest. Ok (x.0 ∷ x.1, rest)))
+      ap (λ r. cond (next_in (first s g) tokens) r (Ok ([], tokens)))
+      (ap (λ r. then_read r (λ x rest. Ok (x.0 ∷ x.1, rest)))
       (both_alike read other (repeated read (first s g) m) (repeated other (first s g) m) tokens (same tokens w)
       (λ x e. same_repeated k g read other same consumes m x.1 (inr (shorter w (consumes tokens x e))))))
     where
@@ -70,17 +75,21 @@ module _ {I : Type 0} {E : I → Type 0} (s : Syntax I E) (clean : IsClean s) wh
       both_alike (read_by s R g) (read_by s S g) (read_by s R h) (read_by s S h) tokens
       (same_reading k R S agree exact g each.0 tokens (first_part w))
       (λ x f. same_reading k R S agree exact h each.1 x.1
-      (within_second k g h (read_by s R g) tokens x w (subst (Exact s g (read_by s R g) tokens) f (exact_by s clean R exact g each.0 tokens))))
+      (within_second k g h (read_by s R g) tokens x w
+      (subst (Exact s g (read_by s R g) tokens) f (exact_by s clean R exact g each.0 tokens))))
     where
       first_part : Within k (sequence g h) tokens → Within k g tokens
       first_part (inl f) = inl ((both_true f.0).0, f.1)
       first_part (inr f) = inr f
   same_reading k R S agree exact (choice g h) e tokens w =
-      let parts : (is_clean s g && is_clean s h && not (can_be_empty g) ≡ true) × (are_apart (first s g) (first s h) ≡ true) = both_true e in
+      let parts : (is_clean s g && is_clean s h && not (can_be_empty g) ≡ true)
+      × (are_apart (first s g) (first s h) ≡ true) = both_true e in
       let parts2 : (is_clean s g && is_clean s h ≡ true) × (not (can_be_empty g) ≡ true) = both_true parts.0 in
       let each : (is_clean s g ≡ true) × (is_clean s h ≡ true) = both_true parts2.0 in
-      ap (λ r. cond (next_in (first s g) tokens) r (read_by s R h tokens)) (same_reading k R S agree exact g each.0 tokens (left w))
-      ∙ ap (λ r. cond (next_in (first s g) tokens) (read_by s S g tokens) r) (same_reading k R S agree exact h each.1 tokens (right w))
+      ap (λ r. cond (next_in (first s g) tokens) r (read_by s R h tokens))
+      (same_reading k R S agree exact g each.0 tokens (left w))
+      ∙ ap (λ r. cond (next_in (first s g) tokens) (read_by s S g tokens) r)
+      (same_reading k R S agree exact h each.1 tokens (right w))
     where
       left : Within k (choice g h) tokens → Within k g tokens
       left (inl f) = inl ((both_true f.0).0, f.1)
@@ -92,10 +101,12 @@ module _ {I : Type 0} {E : I → Type 0} (s : Syntax I E) (clean : IsClean s) wh
   same_reading k R S agree exact (action f g) e tokens w =
       ap (λ r. then_read r (λ x rest. Ok (f x, rest))) (same_reading k R S agree exact g e tokens w)
   same_reading k R S agree exact (repetition g) e tokens w =
-      let parts : (is_clean s g && not (can_be_empty g) ≡ true) × (are_apart (follow s g) (first s g) ≡ true) = both_true e in
+      let parts : (is_clean s g && not (can_be_empty g) ≡ true) × (are_apart (follow s g) (first s g) ≡ true) =
+      both_true e in
       let each : (is_clean s g ≡ true) × (not (can_be_empty g) ≡ true) = both_true parts.0 in
       same_repeated k g (read_by s R g) (read_by s S g) (same_reading k R S agree exact g each.0)
-      (consumes_by s clean g (read_by s R g) (exact_by s clean R exact g each.0) (not_true each.1)) (length tokens) tokens w
+      (consumes_by s clean g (read_by s R g) (exact_by s clean R exact g each.0) (not_true each.1)) (length tokens)
+      tokens w
   same_reading k R S agree exact (nonterminal i) e tokens (inl f) = absurd (let g : false ≡ true = f.0 in cc)
   same_reading k R S agree exact (nonterminal i) e tokens (inr f) = agree i tokens f
 
@@ -103,7 +114,8 @@ module _ {I : Type 0} {E : I → Type 0} (s : Syntax I E) (clean : IsClean s) wh
       → Exact s (nonterminal i) (read_rule s m i) tokens (read_rule s m i tokens)
   unfolding read_rule
   exact_rule zero i tokens =
-      let p : (ts : List Lexeme) × (tree : E i) × PhraseBy (Derives s clean.depth) (nonterminal i) ts tree = phrase_of s clean (nonterminal i) in
+      let p : (ts : List Lexeme) × (tree : E i) × PhraseBy (Derives s clean.depth) (nonterminal i) ts tree =
+      phrase_of s clean (nonterminal i) in
       record {
         front = [];
         rest = tokens;
@@ -125,7 +137,8 @@ module _ {I : Type 0} {E : I → Type 0} (s : Syntax I E) (clean : IsClean s) wh
   same_fuel zero k i tokens p q = absurd (omega arith)
   same_fuel (suc m) zero i tokens p q = absurd (omega arith)
   same_fuel (suc m) (suc k) i tokens p q =
-      same_reading (length tokens) (read_rule s m) (read_rule s k) (λ j us lt. same_fuel m k j us (omega arith) (omega arith)) (exact_rule m)
+      same_reading (length tokens) (read_rule s m) (read_rule s k)
+      (λ j us lt. same_fuel m k j us (omega arith) (omega arith)) (exact_rule m)
       (s.rule i) (rule_facts s clean i).is tokens (inl ((rule_facts s clean i).guarded, omega arith))
 
   -- a rule is read as its grammar is
@@ -139,7 +152,8 @@ module _ {I : Type 0} {E : I → Type 0} (s : Syntax I E) (clean : IsClean s) wh
   pub exact_reads_rule : (i : I) (tokens : List Lexeme)
       → Exact s (nonterminal i) (reads_rule s i) tokens (reads_rule s i tokens)
   unfolding reads_rule
-  exact_reads_rule i tokens = go (read_rule s (suc (length tokens)) i tokens) refl (exact_rule (suc (length tokens)) i tokens)
+  exact_reads_rule i tokens =
+      go (read_rule s (suc (length tokens)) i tokens) refl (exact_rule (suc (length tokens)) i tokens)
     where
       with_more : (n : ℕ) → suc (length tokens) ≤ n
           → read_rule s n i tokens ≡ read_rule s (suc (length tokens)) i tokens
@@ -156,7 +170,8 @@ module _ {I : Type 0} {E : I → Type 0} (s : Syntax I E) (clean : IsClean s) wh
             again = λ others h.
                 let n : ℕ = suc (length tokens + length (p.front ++ others)) in
                 let q : Found s (nonterminal i) (read_rule s n i) tokens x.0 x.1 =
-                subst (Exact s (nonterminal i) (read_rule s n i) tokens) (with_more n (omega arith) ∙ e) (exact_rule n i tokens) in
+                subst (Exact s (nonterminal i) (read_rule s n i) tokens) (with_more n (omega arith) ∙ e)
+                (exact_rule n i tokens) in
                 let same : q.front ≡ p.front = append_cancel_right q.front p.front x.1 (sym q.split ∙ p.split) in
                 same_fuel (suc (length (p.front ++ others))) n i (p.front ++ others) (omega arith) (omega arith)
                 ∙ subst (λ front. read_rule s n i (front ++ others) ≡ Ok (x.0, others)) same (q.again others h);
@@ -171,10 +186,13 @@ module _ {I : Type 0} {E : I → Type 0} (s : Syntax I E) (clean : IsClean s) wh
             again = λ others h.
                 let n : ℕ = suc (length tokens + length (p.front ++ others)) in
                 let q : Stopped s (nonterminal i) (read_rule s n i) tokens left =
-                subst (Exact s (nonterminal i) (read_rule s n i) tokens) (with_more n (omega arith) ∙ e) (exact_rule n i tokens) in
-                let same : (q.front ≡ p.front) × (q.rest ≡ p.rest) = one_cut q.front q.rest p.front p.rest (sym q.split ∙ p.split) (q.left_is ∙ sym p.left_is) in
+                subst (Exact s (nonterminal i) (read_rule s n i) tokens) (with_more n (omega arith) ∙ e)
+                (exact_rule n i tokens) in
+                let same : (q.front ≡ p.front) × (q.rest ≡ p.rest) =
+                one_cut q.front q.rest p.front p.rest (sym q.split ∙ p.split) (q.left_is ∙ sym p.left_is) in
                 same_fuel (suc (length (p.front ++ others))) n i (p.front ++ others) (omega arith) (omega arith)
-                ∙ subst (λ front. read_rule s n i (front ++ others) ≡ Err (length others)) same.0 (q.again others (h ∙ ap next_class (sym same.1)));
+                ∙ subst (λ front. read_rule s n i (front ++ others) ≡ Err (length others)) same.0
+                (q.again others (h ∙ ap next_class (sym same.1)));
           }
 
   -- the reading of each clean grammar is exact

@@ -29,18 +29,24 @@ pub after_first : {A : Type 0} (read : List Lexeme → Read A) (more : List Lexe
     → read tokens ≡ Ok (x, rest) → after_items items (more rest) ≡ one_more read more tokens
 after_first {A} read more items x tokens rest e f =
     ap (λ xs. after_items xs (more rest)) e ∙ joined (more rest)
-    ∙ sym (ap (λ r. then_read {A = A × List A} (then_read r (λ y last. then_read (more last) (λ ys end. Ok ((y, ys), end)))) (λ p last. Ok (p.0 ∷ p.1, last))) f)
+    ∙ sym (ap
+    (λ r. then_read {A = A × List A} (then_read r (λ y last. then_read (more last) (λ ys end. Ok ((y, ys), end))))
+    (λ p last. Ok (p.0 ∷ p.1, last))) f)
   where
     joined : (r : Read (List A))
-        → after_items (x ∷ []) r ≡ then_read {A = A × List A} (then_read r (λ xs rest. Ok ((x, xs), rest))) (λ p rest. Ok (p.0 ∷ p.1, rest))
+        → after_items (x ∷ []) r ≡ then_read {A = A × List A} (then_read r (λ xs rest. Ok ((x, xs), rest)))
+        (λ p rest. Ok (p.0 ∷ p.1, rest))
     joined (Ok y) = refl
     joined (Err left) = refl
 
-module _ {I : Type 0} {E : I → Type 0} (s : Syntax I E) (clean : IsClean s) {A : Type 0} (g : Grammar I E A) (repeats : is_clean s (repetition g) ≡ true) where
+module _ {I : Type 0} {E : I → Type 0} (s : Syntax I E) (clean : IsClean s) {A : Type 0} (g : Grammar I E A)
+    (repeats : is_clean s (repetition g) ≡ true) where
   one_step : (tokens : List Lexeme)
-      → reads s (repetition g) tokens ≡ cond (next_in (first s g) tokens) (one_more (reads s g) (many (reads s g) (first s g)) tokens) (Ok ([], tokens))
+      → reads s (repetition g) tokens ≡ cond (next_in (first s g) tokens)
+      (one_more (reads s g) (many (reads s g) (first s g)) tokens) (Ok ([], tokens))
   one_step tokens =
-      let parts : (is_clean s g && not (can_be_empty g) ≡ true) × (are_apart (follow s g) (first s g) ≡ true) = both_true repeats in
+      let parts : (is_clean s g && not (can_be_empty g) ≡ true) × (are_apart (follow s g) (first s g) ≡ true) =
+      both_true repeats in
       let each : (is_clean s g ≡ true) × (not (can_be_empty g) ≡ true) = both_true parts.0 in
       step (reads s g) (first s g) (consumes_by s clean g (reads s g) (exact s clean g each.0) (not_true each.1)) tokens
 
@@ -49,12 +55,17 @@ module _ {I : Type 0} {E : I → Type 0} (s : Syntax I E) (clean : IsClean s) {A
       → reads s g tokens ≡ Ok (x, rest)
       → after_items items (reads s (repetition g) tokens) ≡ after_items (items ++ x ∷ []) (reads s (repetition g) rest)
   loop_goes_on items x tokens rest e f =
-      ap (after_items items) (one_step tokens ∙ ap (λ b. cond b (one_more (reads s g) (many (reads s g) (first s g)) tokens) (Ok ([], tokens))) e
-      ∙ ap (λ r. then_read {A = A × List A} (then_read r (λ y last. then_read (many (reads s g) (first s g) last) (λ ys end. Ok ((y, ys), end)))) (λ q last. Ok (q.0 ∷ q.1, last))) f)
+      ap (after_items items) (one_step tokens
+      ∙ ap (λ b. cond b (one_more (reads s g) (many (reads s g) (first s g)) tokens) (Ok ([], tokens))) e
+      ∙ ap (λ r. then_read {A = A × List A}
+      (then_read r (λ y last. then_read (many (reads s g) (first s g) last) (λ ys end. Ok ((y, ys), end))))
+      (λ q last. Ok (q.0 ∷ q.1, last))) f)
       ∙ joined (reads s (repetition g) rest)
     where
       joined : (r : Read (List A))
-          → after_items items (then_read {A = A × List A} (then_read r (λ ys end. Ok ((x, ys), end))) (λ q last. Ok (q.0 ∷ q.1, last))) ≡ after_items (items ++ x ∷ []) r
+          → after_items items
+          (then_read {A = A × List A} (then_read r (λ ys end. Ok ((x, ys), end))) (λ q last. Ok (q.0 ∷ q.1, last)))
+          ≡ after_items (items ++ x ∷ []) r
       joined (Ok y) = ap (λ ys. Ok (ys, y.1)) (sym (append_assoc items (x ∷ []) y.0))
       joined (Err left) = refl
 
@@ -62,15 +73,19 @@ module _ {I : Type 0} {E : I → Type 0} (s : Syntax I E) (clean : IsClean s) {A
   pub loop_ends : (items : List A) (tokens : List Lexeme) → next_in (first s g) tokens ≡ false
       → after_items items (reads s (repetition g) tokens) ≡ Ok (items, tokens)
   loop_ends items tokens e =
-      ap (after_items items) (one_step tokens ∙ ap (λ b. cond b (one_more (reads s g) (many (reads s g) (first s g)) tokens) (Ok ([], tokens))) e)
+      ap (after_items items) (one_step tokens
+      ∙ ap (λ b. cond b (one_more (reads s g) (many (reads s g) (first s g)) tokens) (Ok ([], tokens))) e)
       ∙ ap (λ xs. Ok (xs, tokens)) (append-nil items)
 
   -- the next item stopped
   pub loop_stops : (items : List A) (tokens : List Lexeme) (left : ℕ) → next_in (first s g) tokens ≡ true
       → reads s g tokens ≡ Err left → after_items items (reads s (repetition g) tokens) ≡ Err left
   loop_stops items tokens left e f =
-      ap (after_items items) (one_step tokens ∙ ap (λ b. cond b (one_more (reads s g) (many (reads s g) (first s g)) tokens) (Ok ([], tokens))) e
-      ∙ ap (λ r. then_read {A = A × List A} (then_read r (λ y last. then_read (many (reads s g) (first s g) last) (λ ys end. Ok ((y, ys), end)))) (λ q last. Ok (q.0 ∷ q.1, last))) f)
+      ap (after_items items) (one_step tokens
+      ∙ ap (λ b. cond b (one_more (reads s g) (many (reads s g) (first s g)) tokens) (Ok ([], tokens))) e
+      ∙ ap (λ r. then_read {A = A × List A}
+      (then_read r (λ y last. then_read (many (reads s g) (first s g) last) (λ ys end. Ok ((y, ys), end))))
+      (λ q last. Ok (q.0 ∷ q.1, last))) f)
 
   -- the function returns what stopped the next item
   pub loop_error : (items : List A) (tokens : List Lexeme) → next_in (first s g) tokens ≡ true
@@ -84,6 +99,7 @@ module _ {I : Type 0} {E : I → Type 0} (s : Syntax I E) (clean : IsClean s) {A
   pub loop_shortens : (x : A) (tokens rest : List Lexeme) → reads s g tokens ≡ Ok (x, rest)
       → length rest < length tokens
   loop_shortens x tokens rest e =
-      let parts : (is_clean s g && not (can_be_empty g) ≡ true) × (are_apart (follow s g) (first s g) ≡ true) = both_true repeats in
+      let parts : (is_clean s g && not (can_be_empty g) ≡ true) × (are_apart (follow s g) (first s g) ≡ true) =
+      both_true repeats in
       let each : (is_clean s g ≡ true) × (not (can_be_empty g) ≡ true) = both_true parts.0 in
       consumes_by s clean g (reads s g) (exact s clean g each.0) (not_true each.1) tokens (x, rest) e

@@ -41,14 +41,16 @@ cut_facts tokens None e =
     }
 cut_facts tokens (Some k) e =
     let first : FirstTooDeep 0 tokens k = some_too_deep 0 tokens k e in
-    let size : length (take (suc k) tokens) ≡ suc k = length-take-le (suc k) tokens (let lt : k < length tokens = first.within in omega arith) in
+    let size : length (take (suc k) tokens) ≡ suc k =
+    length-take-le (suc k) tokens (let lt : k < length tokens = first.within in omega arith) in
     record {
       within = let lt : k < length tokens = first.within in omega arith;
       same = λ j le. take-take j (suc k) tokens (omega arith);
       shallow = λ j lt. shallow_take 0 tokens j k (omega arith) first.shallow;
     }
 
-module _ {I : Type 0} {E : I → Type 0} (s : grammar.Syntax I E) {A : Type 0} (g : Grammar I E A) (readable : IsReadable s g) where
+module _ {I : Type 0} {E : I → Type 0} (s : grammar.Syntax I E) {A : Type 0} (g : Grammar I E A)
+    (readable : IsReadable s g) where
   text_clean : is_clean s (text g) ≡ true
   text_clean = (both_true readable.start).0
 
@@ -56,8 +58,10 @@ module _ {I : Type 0} {E : I → Type 0} (s : grammar.Syntax I E) {A : Type 0} (
   at_most_one : (tokens : List Lexeme) (answer other : Result A ReadError) → IsAnswer s g tokens answer
       → IsAnswer s g tokens other → answer ≡ other
   at_most_one tokens (Ok a) (Ok b) p q =
-      let one : reads s (text g) tokens ≡ Ok (a, []) = complete_whole s readable.rules (text g) text_clean tokens a p.phrase in
-      let two : reads s (text g) tokens ≡ Ok (b, []) = complete_whole s readable.rules (text g) text_clean tokens b q.phrase in
+      let one : reads s (text g) tokens ≡ Ok (a, []) =
+      complete_whole s readable.rules (text g) text_clean tokens a p.phrase in
+      let two : reads s (text g) tokens ≡ Ok (b, []) =
+      complete_whole s readable.rules (text g) text_clean tokens b q.phrase in
       let x : A × List Lexeme = (a, []) in
       let y : A × List Lexeme = (b, []) in
       let both : x ≡ y = cc in
@@ -122,15 +126,19 @@ module _ {I : Type 0} {E : I → Type 0} (s : grammar.Syntax I E) {A : Type 0} (
       → length (t ∷ rest) ≡ n → Begins s (text g) front → (Begins s (text g) (front ++ t ∷ []) → ⊥)
       → IsSyntax s g tokens (length given - n)
   syntax_at tokens given c front t rest n split left before none =
-      let size : length given ≡ length front + n = ap length split ∙ length-append front (t ∷ rest) ∙ ap (λ k. length front + k) left in
+      let size : length given ≡ length front + n = ap length split ∙ length-append front (t ∷ rest)
+      ∙ ap (λ k. length front + k) left in
       let place : length front ≡ length given - n = omega arith in
       let some : 0 < n = omega (arith, left) in
       let lt : length front < length given = omega arith in
       subst (IsSyntax s g tokens) place
       (record {
         within = omega (arith, c.within);
-        before = subst (Begins s (text g)) (sym (ap (take (length front)) split ∙ take_front front (t ∷ rest)) ∙ c.same (length front) (omega arith)) before;
-        none = λ b. none (subst (Begins s (text g)) (sym (c.same (suc (length front)) lt) ∙ ap (take (suc (length front))) split ∙ take_one_more front t rest) b);
+        before = subst (Begins s (text g)) (sym (ap (take (length front)) split ∙ take_front front (t ∷ rest))
+            ∙ c.same (length front) (omega arith)) before;
+        none = λ b. none
+            (subst (Begins s (text g)) (sym (c.same (suc (length front)) lt) ∙ ap (take (suc (length front))) split
+            ∙ take_one_more front t rest) b);
         shallow = c.shallow (length front) lt;
       })
 
@@ -152,17 +160,22 @@ module _ {I : Type 0} {E : I → Type 0} (s : grammar.Syntax I E) {A : Type 0} (
       ended : has_end tokens ≡ true
       ended =
           ap has_end ends.split ∙ list_any-append (λ t. same_class t.class (Any kind.End)) ends.front (ends.last ∷ [])
-          ∙ or_second (has_end ends.front) (ap (λ d. same_class d (Any kind.End) || false) ends.end ∙ ap (λ b. b || false) (class_alike (Any kind.End)))
+          ∙ or_second (has_end ends.front) (ap (λ d. same_class d (Any kind.End) || false) ends.end
+          ∙ ap (λ b. b || false) (class_alike (Any kind.End)))
 
       go : (more : List Lexeme) → IsPhrase s (text g) (tokens ++ more) b.tree
           → (tree : A) × IsPhrase s (text g) tokens tree
       go [] p = (b.tree, subst (λ ts. IsPhrase s (text g) ts b.tree) (append-nil tokens) p)
       go (m ∷ ms) p =
           let both = p.is.1 in
-          let cut_off : (zs : List Lexeme) × (both.0 ≡ tokens ++ zs) = inner both.0 both.4.0 tokens m ms (both.2 ∙ ap (λ ts. both.0 ++ ts) both.4.1.0) in
-          let none : has_end both.0 ≡ false = no_end_inside s readable.rules g (both_true readable.start).1 both.0 p.is.0.0 (record { depth = p.depth; is = both.3 }) in
+          let cut_off : (zs : List Lexeme) × (both.0 ≡ tokens ++ zs) =
+          inner both.0 both.4.0 tokens m ms (both.2 ∙ ap (λ ts. both.0 ++ ts) both.4.1.0) in
+          let none : has_end both.0 ≡ false =
+          no_end_inside s readable.rules g (both_true readable.start).1 both.0 p.is.0.0
+          (record { depth = p.depth; is = both.3 }) in
           let some : has_end both.0 ≡ true =
-          ap has_end cut_off.1 ∙ list_any-append (λ t. same_class t.class (Any kind.End)) tokens cut_off.0 ∙ or_first (has_end cut_off.0) ended in
+          ap has_end cut_off.1 ∙ list_any-append (λ t. same_class t.class (Any kind.End)) tokens cut_off.0
+          ∙ or_first (has_end cut_off.0) ended in
           absurd (contrary some none)
 
   -- what reading gives is an answer
@@ -172,7 +185,8 @@ module _ {I : Type 0} {E : I → Type 0} (s : grammar.Syntax I E) {A : Type 0} (
       → IsAnswer s g tokens (settled result deep (length (cut deep tokens)) (length new))
   is_answer tokens ends deep e (Ok tree) [] gives told =
       let at : Found s (text g) (reads s (text g)) (cut deep tokens) tree [] =
-      subst (Exact s (text g) (reads s (text g)) (cut deep tokens)) gives.0 (exact s readable.rules (text g) text_clean (cut deep tokens)) in
+      subst (Exact s (text g) (reads s (text g)) (cut deep tokens)) gives.0
+      (exact s readable.rules (text g) text_clean (cut deep tokens)) in
       let whole : IsPhrase s (text g) (cut deep tokens) tree =
       subst (λ ts. IsPhrase s (text g) ts tree) (sym (append-nil at.front) ∙ sym at.split) at.phrase in
       at_end deep e whole
@@ -184,19 +198,28 @@ module _ {I : Type 0} {E : I → Type 0} (s : grammar.Syntax I E) {A : Type 0} (
           let first : FirstTooDeep 0 tokens k = some_too_deep 0 tokens k f in
           record {
             within = first.within;
-            with_it = subst (Begins s (text g)) (take-take (suc k) (suc k) tokens (omega arith)) (phrase_begins s (text g) (take (suc k) tokens) tree p (suc k));
+            with_it =
+                subst (Begins s (text g)) (take-take (suc k) (suc k) tokens (omega arith))
+                (phrase_begins s (text g) (take (suc k) tokens) tree p (suc k));
             shallow = first.shallow;
             deep = first.deep;
           }
   is_answer tokens ends deep e (Ok tree) (t ∷ rest) gives told =
       let at : Found s (text g) (reads s (text g)) (cut deep tokens) tree (t ∷ rest) =
-      subst (Exact s (text g) (reads s (text g)) (cut deep tokens)) gives.0 (exact s readable.rules (text g) text_clean (cut deep tokens)) in
+      subst (Exact s (text g) (reads s (text g)) (cut deep tokens)) gives.0
+      (exact s readable.rules (text g) text_clean (cut deep tokens)) in
       syntax_at tokens (cut deep tokens) (cut_facts tokens deep e) at.front t rest (length (t ∷ rest)) at.split refl
-      (record { more = []; tree = tree; phrase = subst (λ ts. IsPhrase s (text g) ts tree) (sym (append-nil at.front)) at.phrase })
+      (record {
+        more = [];
+        tree = tree;
+        phrase =
+            subst (λ ts. IsPhrase s (text g) ts tree) (sym (append-nil at.front)) at.phrase;
+      })
       (none_after_tree at.front tree t (λ more. at.again (t ∷ more) refl))
   is_answer tokens ends deep e (Err (At zero)) new gives told =
       let at : Stopped s (text g) (reads s (text g)) (cut deep tokens) 0 =
-      subst (Exact s (text g) (reads s (text g)) (cut deep tokens)) gives (exact s readable.rules (text g) text_clean (cut deep tokens)) in
+      subst (Exact s (text g) (reads s (text g)) (cut deep tokens)) gives
+      (exact s readable.rules (text g) text_clean (cut deep tokens)) in
       at_end deep e gives (none_left at.front at.rest at.split at.left_is at.begins)
     where
       none_left : (front rest : List Lexeme) → cut deep tokens ≡ front ++ rest → length rest ≡ 0
@@ -209,14 +232,16 @@ module _ {I : Type 0} {E : I → Type 0} (s : grammar.Syntax I E) {A : Type 0} (
           → IsAnswer s g tokens (at_the_end o (Err (Syntax (length (cut o tokens)))))
       at_end None f stopped b =
           let p : (tree : A) × IsPhrase s (text g) tokens tree = ends_there tokens ends b in
-          let found : reads s (text g) tokens ≡ Ok (p.0, []) = complete_whole s readable.rules (text g) text_clean tokens p.0 p.1 in
+          let found : reads s (text g) tokens ≡ Ok (p.0, []) =
+          complete_whole s readable.rules (text g) text_clean tokens p.0 p.1 in
           absurd cc
       at_end (Some k) f stopped b =
           let first : FirstTooDeep 0 tokens k = some_too_deep 0 tokens k f in
           record { within = first.within; with_it = b; shallow = first.shallow; deep = first.deep }
   is_answer tokens ends deep e (Err (At (suc n))) new gives told =
       let at : Stopped s (text g) (reads s (text g)) (cut deep tokens) (suc n) =
-      subst (Exact s (text g) (reads s (text g)) (cut deep tokens)) gives (exact s readable.rules (text g) text_clean (cut deep tokens)) in
+      subst (Exact s (text g) (reads s (text g)) (cut deep tokens)) gives
+      (exact s readable.rules (text g) text_clean (cut deep tokens)) in
       some_left at.front at.rest at.split at.left_is at.begins at.again
     where
       some_left : (front rest : List Lexeme) → cut deep tokens ≡ front ++ rest → length rest ≡ suc n
@@ -225,21 +250,25 @@ module _ {I : Type 0} {E : I → Type 0} (s : grammar.Syntax I E) {A : Type 0} (
           → IsSyntax s g tokens (length (cut deep tokens) - suc n)
       some_left front [] f size b again = absurd (omega arith)
       some_left front (t ∷ ts) f size b again =
-          syntax_at tokens (cut deep tokens) (cut_facts tokens deep e) front t ts (suc n) f size b (none_after_stop front t (λ more. again (t ∷ more) refl))
+          syntax_at tokens (cut deep tokens) (cut_facts tokens deep e) front t ts (suc n) f size b
+          (none_after_stop front t (λ more. again (t ∷ more) refl))
   is_answer tokens ends deep e (Err stop.NoMemory) new gives told = absurd (told refl)
 
   one_answer : (tokens : List Lexeme) (answer : Result A ReadError) → IsAnswer s g tokens answer
       → Answers s g tokens answer
   one_answer tokens (Ok tree) p = record { is = p; only = λ other q. at_most_one tokens (Ok tree) other p q }
-  one_answer tokens (Err (Syntax n)) p = record { is = p; only = λ other q. at_most_one tokens (Err (Syntax n)) other p q }
-  one_answer tokens (Err (TooDeep n)) p = record { is = p; only = λ other q. at_most_one tokens (Err (TooDeep n)) other p q }
+  one_answer tokens (Err (Syntax n)) p =
+      record { is = p; only = λ other q. at_most_one tokens (Err (Syntax n)) other p q }
+  one_answer tokens (Err (TooDeep n)) p =
+      record { is = p; only = λ other q. at_most_one tokens (Err (TooDeep n)) other p q }
   one_answer tokens (Err NoMemory) p = absurd p
 
   -- A reader that was given the tokens up to the first bracket that is too deep, and gives what reading gives, has
   -- settled the one answer.
   pub answers : (tokens : List Lexeme) → EndsText tokens → (result : Result A Stop) (new : List Lexeme)
       → Gives result (cut (first_too_deep 0 tokens) tokens) new (reads s (text g))
-      → Answers s g tokens (settled result (first_too_deep 0 tokens) (length (cut (first_too_deep 0 tokens) tokens)) (length new))
+      → Answers s g tokens
+      (settled result (first_too_deep 0 tokens) (length (cut (first_too_deep 0 tokens) tokens)) (length new))
   answers tokens ends (Ok tree) new gives =
       one_answer tokens _ (is_answer tokens ends (first_too_deep 0 tokens) refl (Ok tree) new gives (λ e. cc))
   answers tokens ends (Err (At n)) new gives =
@@ -256,5 +285,6 @@ module _ {I : Type 0} {E : I → Type 0} (s : grammar.Syntax I E) {A : Type 0} (
       subst (Answers s g tokens)
       (ap (λ d. settled result d (length (cut (first_too_deep 0 tokens) tokens)) (length new)) (sym e)
       ∙ ap (λ ts. settled result deep (length ts) (length new)) (sym given_is)
-      ∙ ap (λ n. settled result deep n (length new)) (sym total_is) ∙ ap (settled result deep total) (sym left_is) ∙ sym h)
+      ∙ ap (λ n. settled result deep n (length new)) (sym total_is) ∙ ap (settled result deep total) (sym left_is)
+      ∙ sym h)
       (answers tokens ends result new (subst (λ ts. Gives result ts new (reads s (text g))) given_is gives))

@@ -60,8 +60,10 @@ module _ {I : Type 0} {E : I → Type 0} where
   empty_phrase R none (empty x) tree p = refl
   empty_phrase R none (sequence g h) tree p =
       let parts : (p.0 ≡ []) × (p.1 ≡ []) = both_empty p.0 p.1 p.2 in
-      let eg : can_be_empty g ≡ true = empty_phrase R none g tree.0 (subst (λ ts. PhraseBy R g ts tree.0) parts.0 p.3) in
-      let eh : can_be_empty h ≡ true = empty_phrase R none h tree.1 (subst (λ ts. PhraseBy R h ts tree.1) parts.1 p.4) in
+      let eg : can_be_empty g ≡ true =
+      empty_phrase R none g tree.0 (subst (λ ts. PhraseBy R g ts tree.0) parts.0 p.3) in
+      let eh : can_be_empty h ≡ true =
+      empty_phrase R none h tree.1 (subst (λ ts. PhraseBy R h ts tree.1) parts.1 p.4) in
       ap (λ b. cond b (can_be_empty h) false) eg ∙ eh
   empty_phrase R none (choice g h) tree p = elim p [
     | inl q ↦ or_first (can_be_empty h) (empty_phrase R none g tree q)
@@ -78,7 +80,8 @@ module _ {I : Type 0} {E : I → Type 0} where
       → {A : Type 0} (g : Grammar I E A) (t : Lexeme) (ts : List Lexeme) (tree : A) → PhraseBy R g (t ∷ ts) tree
       → is_in (first_by begins g) t.class ≡ true
   phrase_first R begins none head (terminal c) t ts tree p =
-      let same : c ≡ t.class = sym p.1 ∙ ap (λ (x : Lexeme). x.class) (let e : t ∷ ts ≡ tree ∷ [] = p.0 in let f : tree ≡ t = cc in f) in
+      let same : c ≡ t.class = sym p.1
+      ∙ ap (λ (x : Lexeme). x.class) (let e : t ∷ ts ≡ tree ∷ [] = p.0 in let f : tree ≡ t = cc in f) in
       or_first false (ap (λ d. same_class t.class d) same ∙ class_alike t.class)
   phrase_first R begins none head (empty x) t ts tree p = absurd (let e : t ∷ ts ≡ [] = p.0 in cc)
   phrase_first R begins none head (sequence {A = X} {B = Y} g h) t ts tree p =
@@ -91,7 +94,8 @@ module _ {I : Type 0} {E : I → Type 0} where
           → is_in (first_by begins (sequence g h)) t.class ≡ true
       go at_g at_h [] e q =
           let eg : can_be_empty g ≡ true = empty_phrase R none g tree.0 q in
-          let here : is_in (first_by begins h) t.class ≡ true = at_h t ts tree.1 (subst (λ us. PhraseBy R h us tree.1) (sym e) p.4) in
+          let here : is_in (first_by begins h) t.class ≡ true =
+          at_h t ts tree.1 (subst (λ us. PhraseBy R h us tree.1) (sym e) p.4) in
           in_second (first_by begins g) (cond (can_be_empty g) (first_by begins h) []) t.class
           (ap (λ b. is_in (cond b (first_by begins h) []) t.class) eg ∙ here)
       go at_g at_h (u ∷ us) e q =
@@ -121,7 +125,8 @@ module _ {I : Type 0} {E : I → Type 0} where
             ∙ ap (λ xs. first_by others g ++ cond (can_be_empty g) xs []) (first_guarded begins others h eh)
         | inr f ↦
             ap (λ xs. xs ++ cond (can_be_empty g) (first_by begins h) []) (first_guarded begins others g parts.0)
-            ∙ (ap (λ b. first_by others g ++ cond b (first_by begins h) []) f ∙ sym (ap (λ b. first_by others g ++ cond b (first_by others h) []) f))
+            ∙ (ap (λ b. first_by others g ++ cond b (first_by begins h) []) f
+            ∙ sym (ap (λ b. first_by others g ++ cond b (first_by others h) []) f))
       ]
   first_guarded begins others (choice g h) e =
       let parts : (is_guarded g ≡ true) × (is_guarded h ≡ true) = both_true e in
@@ -140,15 +145,20 @@ module _ {I : Type 0} {E : I → Type 0} where
   some_phrase s depth test rules (empty x) e = ([], x, (refl, refl))
   some_phrase s depth test rules (sequence {A = X} {B = Y} g h) e =
       let parts : (has_phrase_by test g ≡ true) × (has_phrase_by test h ≡ true) = both_true e in
-      let a : (tokens : List Lexeme) × (tree : X) × PhraseBy (Derives s depth) g tokens tree = some_phrase s depth test rules g parts.0 in
-      let b : (tokens : List Lexeme) × (tree : Y) × PhraseBy (Derives s depth) h tokens tree = some_phrase s depth test rules h parts.1 in
+      let a : (tokens : List Lexeme) × (tree : X) × PhraseBy (Derives s depth) g tokens tree =
+      some_phrase s depth test rules g parts.0 in
+      let b : (tokens : List Lexeme) × (tree : Y) × PhraseBy (Derives s depth) h tokens tree =
+      some_phrase s depth test rules h parts.1 in
       (a.0 ++ b.0, (a.1, b.1), (a.0, b.0, refl, a.2, b.2))
   some_phrase s depth test rules (choice g h) e = elim (either_true (has_phrase_by test g) (has_phrase_by test h) e) [
-    | inl f ↦ let a : (tokens : List Lexeme) × (tree : _) × PhraseBy (Derives s depth) g tokens tree = some_phrase s depth test rules g f in (a.0, a.1, inl a.2)
-    | inr f ↦ let b : (tokens : List Lexeme) × (tree : _) × PhraseBy (Derives s depth) h tokens tree = some_phrase s depth test rules h f in (b.0, b.1, inr b.2)
+    | inl f ↦ let a : (tokens : List Lexeme) × (tree : _) × PhraseBy (Derives s depth) g tokens tree =
+        some_phrase s depth test rules g f in (a.0, a.1, inl a.2)
+    | inr f ↦ let b : (tokens : List Lexeme) × (tree : _) × PhraseBy (Derives s depth) h tokens tree =
+        some_phrase s depth test rules h f in (b.0, b.1, inr b.2)
   ]
   some_phrase s depth test rules (action {A = X} f g) e =
-      let a : (tokens : List Lexeme) × (tree : X) × PhraseBy (Derives s depth) g tokens tree = some_phrase s depth test rules g e in
+      let a : (tokens : List Lexeme) × (tree : X) × PhraseBy (Derives s depth) g tokens tree =
+      some_phrase s depth test rules g e in
       (a.0, f a.1, (a.1, a.2, refl))
   some_phrase s depth test rules (repetition g) e = ([], [], refl)
   some_phrase s depth test rules (nonterminal i) e = rules i e
@@ -209,7 +219,8 @@ module _ {I : Type 0} {E : I → Type 0} (s : Syntax I E) (clean : IsClean s) wh
   phrase_of g = any_phrase s clean.depth (λ i. rule_phrase s clean.depth i (rule_facts i).phrase) g
 
   -- two phrases one after another
-  pub one_after_another : {A B : Type 0} (g : Grammar I E A) (h : Grammar I E B) (front rest : List Lexeme) (x : A) (y : B) → IsPhrase s g front x → IsPhrase s h rest y → IsPhrase s (sequence g h) (front ++ rest) (x, y)
+  pub one_after_another : {A B : Type 0} (g : Grammar I E A) (h : Grammar I E B) (front rest : List Lexeme) (x : A)
+      (y : B) → IsPhrase s g front x → IsPhrase s h rest y → IsPhrase s (sequence g h) (front ++ rest) (x, y)
   one_after_another g h front rest x y p q =
       let left : p.depth ≤ max p.depth q.depth = omega arith in
       let right : q.depth ≤ max p.depth q.depth = omega arith in
@@ -219,8 +230,10 @@ module _ {I : Type 0} {E : I → Type 0} (s : Syntax I E) (clean : IsClean s) wh
           front,
           rest,
           refl,
-          more_phrases (Derives s p.depth) (Derives s (max p.depth q.depth)) (deeper s p.depth (max p.depth q.depth) left) g front x p.is,
-          more_phrases (Derives s q.depth) (Derives s (max p.depth q.depth)) (deeper s q.depth (max p.depth q.depth) right) h rest y q.is,
+          more_phrases (Derives s p.depth) (Derives s (max p.depth q.depth))
+              (deeper s p.depth (max p.depth q.depth) left) g front x p.is,
+          more_phrases (Derives s q.depth) (Derives s (max p.depth q.depth))
+              (deeper s q.depth (max p.depth q.depth) right) h rest y q.is,
         );
       }
 

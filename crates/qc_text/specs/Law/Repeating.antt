@@ -14,7 +14,8 @@ pub both_alike : {A B : Type 0} (read other : List Lexeme → Read A) (more anot
     → Read B) (tokens : List Lexeme) → read tokens ≡ other tokens → ((x : A × List Lexeme) → read tokens ≡ Ok x
     → more x.1 ≡ another x.1) → read_both read more tokens ≡ read_both other another tokens
 both_alike read other more another tokens e h =
-    then_alike (read tokens) (λ x rest. then_read (more rest) (λ y last. Ok ((x, y), last))) (λ x rest. then_read (another rest) (λ y last. Ok ((x, y), last)))
+    then_alike (read tokens) (λ x rest. then_read (more rest) (λ y last. Ok ((x, y), last)))
+    (λ x rest. then_read (another rest) (λ y last. Ok ((x, y), last)))
     (λ x f. ap (λ r. then_read r (λ y last. Ok ((x.0, y), last))) (h x f))
     ∙ ap (λ r. then_read r (λ x rest. then_read (another rest) (λ y last. Ok ((x, y), last)))) e
 
@@ -26,7 +27,8 @@ one_more read more tokens = read_as (λ p. p.0 ∷ p.1) (read_both read more) to
 abbrev pub many : {A : Type 0} → (List Lexeme → Read A) → List Class → List Lexeme → Read (List A)
 many read classes tokens = repeated read classes (length tokens) tokens
 
-module _ {A : Type 0} (read : List Lexeme → Read A) (classes : List Class) (consumes : (tokens : List Lexeme) (x : A × List Lexeme) → read tokens ≡ Ok x → length x.1 < length tokens) where
+module _ {A : Type 0} (read : List Lexeme → Read A) (classes : List Class)
+    (consumes : (tokens : List Lexeme) (x : A × List Lexeme) → read tokens ≡ Ok x → length x.1 < length tokens) where
   -- more fuel than tokens changes nothing
   pub enough : (m k : ℕ) (tokens : List Lexeme) → length tokens ≤ m → length tokens ≤ k
       → repeated read classes m tokens ≡ repeated read classes k tokens
@@ -36,15 +38,20 @@ module _ {A : Type 0} (read : List Lexeme → Read A) (classes : List Class) (co
   enough (suc m) zero [] p q = refl
   enough (suc m) zero (t ∷ ts) p q = absurd (omega arith)
   enough (suc m) (suc k) tokens p q =
-      ap (λ r. cond (next_in classes tokens) r (Ok ([], tokens))) (ap (λ r. then_read r (λ x rest. Ok (x.0 ∷ x.1, rest)))
+      ap (λ r. cond (next_in classes tokens) r (Ok ([], tokens)))
+      (ap (λ r. then_read r (λ x rest. Ok (x.0 ∷ x.1, rest)))
       (both_alike read read (repeated read classes m) (repeated read classes k) tokens refl
-      (λ x e. let shorter : length x.1 < length tokens = consumes tokens x e in enough m k x.1 (omega arith) (omega arith))))
+      (λ x e. let shorter : length x.1 < length tokens = consumes tokens x e in
+      enough m k x.1 (omega arith) (omega arith))))
 
   -- one step
   pub step : (tokens : List Lexeme)
-      → many read classes tokens ≡ cond (next_in classes tokens) (one_more read (many read classes) tokens) (Ok ([], tokens))
+      → many read classes tokens ≡ cond (next_in classes tokens) (one_more read (many read classes) tokens)
+      (Ok ([], tokens))
   step [] = refl
   step (t ∷ ts) =
-      ap (λ r. cond (next_in classes (t ∷ ts)) r (Ok ([], t ∷ ts))) (ap (λ r. then_read r (λ x rest. Ok (x.0 ∷ x.1, rest)))
+      ap (λ r. cond (next_in classes (t ∷ ts)) r (Ok ([], t ∷ ts)))
+      (ap (λ r. then_read r (λ x rest. Ok (x.0 ∷ x.1, rest)))
       (both_alike read read (repeated read classes (length ts)) (many read classes) (t ∷ ts) refl
-      (λ x e. let shorter : length x.1 < suc (length ts) = consumes (t ∷ ts) x e in enough (length ts) (length x.1) x.1 (omega arith) (omega arith))))
+      (λ x e. let shorter : length x.1 < suc (length ts) = consumes (t ∷ ts) x e in
+      enough (length ts) (length x.1) x.1 (omega arith) (omega arith))))

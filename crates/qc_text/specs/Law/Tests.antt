@@ -120,12 +120,14 @@ next_behind (t ∷ front) xs ys e = refl
 pub next_first : (xs ys : List Class) (tokens : List Lexeme) → next_in (xs ++ ys) tokens ≡ false
     → next_in xs tokens ≡ false
 next_first xs ys [] e = refl
-next_first xs ys (t ∷ ts) e = (neither (is_in xs t.class) (is_in ys t.class) (sym (list_any-append (same_class t.class) xs ys) ∙ e)).0
+next_first xs ys (t ∷ ts) e =
+    (neither (is_in xs t.class) (is_in ys t.class) (sym (list_any-append (same_class t.class) xs ys) ∙ e)).0
 
 pub next_second : (xs ys : List Class) (tokens : List Lexeme) → next_in (xs ++ ys) tokens ≡ false
     → next_in ys tokens ≡ false
 next_second xs ys [] e = refl
-next_second xs ys (t ∷ ts) e = (neither (is_in xs t.class) (is_in ys t.class) (sym (list_any-append (same_class t.class) xs ys) ∙ e)).1
+next_second xs ys (t ∷ ts) e =
+    (neither (is_in xs t.class) (is_in ys t.class) (sym (list_any-append (same_class t.class) xs ys) ∙ e)).1
 
 -- what isn't next of a list isn't next of a list within it
 pub next_within : (xs ys : List Class) (tokens : List Lexeme) → are_within xs ys ≡ true → next_in ys tokens ≡ false

@@ -4,9 +4,9 @@ use Rattle.std.specs.Prelude.{◌++◌}
 use Rattle.qc_terms.specs.declared.image.Image.{Image}
 use Rattle.qc_descr.specs.Loading.{FitsMachine}
 use Rattle.qc_core.specs.Agreement.{Agrees}
-use Rattle.qc_core.specs.Code.{instructions_for, output_bytes, return_bytes}
-use Rattle.qc_descr.specs.Encoding.{instance_bytes}
-use Rattle.qc_core.proofs.Emitted.{code_bytes, code_size, image_fits}
+use Rattle.qc_core.specs.Code.{instructions_for, output_of}
+use Rattle.qc_descr.specs.Encoding.{code_bytes}
+use Rattle.qc_core.proofs.Emitted.{code_size, image_fits, program_bytes}
 use Rattle.qc_core.proofs.Agreement.{agreement}
 use Rattle.qc_core.proofs.code.compile.Goals as goal
 
@@ -14,10 +14,11 @@ pub returns-clause-image : goal.returns-clause-image
 returns-clause-image c =
     let descr = c.args.descr.now in
     let program = c.args.program.now in
-    let outputs : c.push_outputs.new.code.items ≡ flat_map (output_bytes descr) program.outputs =
-    c.in_ok-push_outputs.ensures ∙ ap (λ xs. xs ++ flat_map (output_bytes descr) c.as_slice.result.now) c.new-code.ensures.items ∙ ap (flat_map (output_bytes descr)) c.as_slice.ensures in
-    let code : c.from_vec.result ≡ flat_map (instance_bytes descr) (instructions_for program) =
-    c.from_vec.ensures ∙ c.in_ok-push_return.ensures ∙ ap (λ xs. xs ++ return_bytes descr program.returned) outputs ∙ sym (code_bytes descr program) in
+    let outputs : c.push_outputs.new.code.items ≡ code_bytes descr 0 (flat_map output_of program.outputs) =
+    c.in_ok-push_outputs.ensures ∙ ap (λ xs. xs ++ code_bytes descr (length xs) (flat_map output_of c.as_slice.result.now)) c.new-code.ensures.items
+    ∙ ap (λ words. code_bytes descr 0 (flat_map output_of words)) c.as_slice.ensures in
+    let code : c.from_vec.result ≡ code_bytes descr 0 (instructions_for program) =
+    c.from_vec.ensures ∙ program_bytes descr program c.push_outputs.new.code.items _ outputs c.in_ok-push_return.ensures in
     rw (code, c.new.ensures) refl
 
 pub returns-clause-agrees : goal.returns-clause-agrees

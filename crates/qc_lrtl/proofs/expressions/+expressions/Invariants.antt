@@ -21,6 +21,9 @@ decreases-read_expr l = 6 * length l.cursor.now + 2
 abbrev pub decreases-read_built : goal.decreases-read_built
 decreases-read_built l = 6 * length l.cursor.now + 1
 
+abbrev pub decreases-read_resized : goal.decreases-read_resized
+decreases-read_resized l = 6 * length l.cursor.now
+
 abbrev pub decreases-read_after_name : goal.decreases-read_after_name
 decreases-read_after_name l = 6 * length l.cursor.now
 

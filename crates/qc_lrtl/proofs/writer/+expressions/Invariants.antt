@@ -1,10 +1,11 @@
 use Rattle.std.proofs.Common.{◌≡◌, ◌++◌, drop}
 use Rattle.std.specs.List.{flat_map}
-use Rattle.qc_lrtl.specs.Printed.{comma_words, printed}
+use Rattle.qc_lrtl.specs.Printed.{comma_words}
+use Rattle.qc_text.specs.Spaced.{spaced}
 use Rattle.qc_lrtl.proofs.writer.+expressions.Given as goal
 
 -- what is written, and what the rest spells
 abbrev pub invariant-write_more_exprs-loop-place : goal.invariant-write_more_exprs-loop-place
 invariant-write_more_exprs-loop-place l =
-    l.out.items ++ printed (flat_map comma_words (drop l.place l.exprs))
-    ≡ l.fn.out.items ++ printed (flat_map comma_words (drop 1 l.exprs))
+    l.out.items ++ spaced (flat_map comma_words (drop l.place l.exprs))
+    ≡ l.fn.out.items ++ spaced (flat_map comma_words (drop 1 l.exprs))

@@ -1,10 +1,11 @@
 use Rattle.std.proofs.Common.{◌≡◌, ◌++◌, drop}
 use Rattle.std.specs.List.{flat_map}
-use Rattle.qc_lrtl.specs.Printed.{comma_operand_words, printed}
+use Rattle.qc_lrtl.specs.Printed.{comma_operand_words}
+use Rattle.qc_text.specs.Spaced.{spaced}
 use Rattle.qc_lrtl.proofs.writer.write_more_operands.Given as goal
 
 -- what is written, and what the rest spells
 abbrev pub invariant-loop-place : goal.invariant-loop-place
 invariant-loop-place l =
-    l.out.items ++ printed (flat_map comma_operand_words (drop l.place l.operands))
-    ≡ l.fn.out.items ++ printed (flat_map comma_operand_words (drop 1 l.operands))
+    l.out.items ++ spaced (flat_map comma_operand_words (drop l.place l.operands))
+    ≡ l.fn.out.items ++ spaced (flat_map comma_operand_words (drop 1 l.operands))

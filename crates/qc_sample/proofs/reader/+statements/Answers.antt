@@ -8,7 +8,8 @@ use Rattle.qc_sample.proofs.reader.+statements.Goals as goal
 
 pub read_any_statement-returns : goal.read_any_statement-returns
 read_any_statement-returns t c =
-    gives_alike c.read_statement.result c.args.cursor.now c.read_statement.new.cursor (reads sample statement) _ statement_unrolls c.read_statement.ensures
+    gives_alike c.read_statement.result c.args.cursor.now c.read_statement.new.cursor (reads sample statement) _
+    statement_unrolls c.read_statement.ensures
 
 pub read_statements-loop-alloc-init : goal.read_statements-loop-alloc-init
 read_statements-loop-alloc-init t c = record {
@@ -25,9 +26,11 @@ pub read_statements-loop-alloc-preserved : goal.read_statements-loop-alloc-prese
 unfolding statements
 read_statements-loop-alloc-preserved t c = record {
   read =
-      ap (λ items. after_items items (reads sample statements c.read_any_statement.new.cursor)) c.in_ok-push-in-Ok.ensures.ok
+      ap (λ items. after_items items (reads sample statements c.read_any_statement.new.cursor))
+      c.in_ok-push-in-Ok.ensures.ok
       ∙ sym (loop_goes_on sample sample_is_readable.rules (nonterminal any_statement) refl
-      c.loop-alloc.statements c.in-Ok.statement c.loop-alloc.cursor c.read_any_statement.new.cursor (sym c.begins_statement.ensures ∙ c.loop-alloc-test.true) c.in-Ok.ensures.0)
+      c.loop-alloc.statements c.in-Ok.statement c.loop-alloc.cursor c.read_any_statement.new.cursor
+      (sym c.begins_statement.ensures ∙ c.loop-alloc-test.true) c.in-Ok.ensures.0)
       ∙ c.loop-alloc.invariant.read;
   shorter = omega (arith, c.in-Ok.ensures.1);
 }
@@ -37,7 +40,8 @@ unfolding statements
 read_statements-returns-in-Err t c =
     loop_error sample sample_is_readable.rules (nonterminal any_statement) refl
     c.loop-alloc.statements c.loop-alloc.cursor (sym c.begins_statement.ensures ∙ c.loop-alloc-test.true)
-    c.in-Err.stop c.read_any_statement.new.cursor c.in-Err.ensures c.args.cursor.now (reads sample statements) c.loop-alloc.invariant.read
+    c.in-Err.stop c.read_any_statement.new.cursor c.in-Err.ensures c.args.cursor.now (reads sample statements)
+    c.loop-alloc.invariant.read
 
 pub read_statements-returns : goal.read_statements-returns
 unfolding statements

@@ -1,12 +1,13 @@
-use Rattle.qc_text.specs.Lexeme.{lexemes}
-use Rattle.qc_text.specs.Law.Ended.{ended}
-use Rattle.qc_text.specs.Law.OneAnswer.{answered}
-use Rattle.qc_sample.specs.Sample.{sample, reserved, program, sample_is_readable}
+use Rattle.std.proofs.Common.{sym, subst}
+use Rattle.qc_text.specs.TextAnswer.{IsScanned, text_answered, unscanned}
+use Rattle.qc_sample.specs.Sample.{sample, program, reserved}
 use Rattle.qc_sample.proofs.reader.read_sample.Goals as goal
 
-pub returns : goal.returns
-returns c = answered sample program sample_is_readable
-    (lexemes reserved c.args.source.now c.args.tokens.now) (ended reserved c.args.source.now c.args.tokens.now c.requires.ended)
-    c.begin-cursor.result.1 c.begin-cursor.ensures.deep c.begin-cursor.result.0 c.begin-cursor.ensures.given
-    c.read_whole-read.result c.read_whole-read.new.cursor c.read_whole-read.ensures
-    c.left-given.result c.left.result c.left-given.ensures c.left.ensures c.settle.result c.settle.ensures
+pub returns-in-Ok : goal.returns-in-Ok
+returns-in-Ok c =
+    text_answered sample program reserved c.args.bytes.now c.as_slice.result.now
+    (subst (IsScanned c.args.bytes.now) (sym c.as_slice.ensures.value) c.in-Ok.ensures)
+    c.read_tokens.result c.read_tokens.ensures c.answer.result c.answer.ensures
+
+pub returns-in-Err : goal.returns-in-Err
+returns-in-Err c = unscanned sample program reserved c.args.bytes.now c.in-Err.end c.in-Err.ensures

@@ -1,8 +1,14 @@
-use Rattle.std.proofs.Common.{ap, sym, ◌∙◌, ◌++◌}
-use Rattle.qc_sample.specs.Printed.{printed, program_words, program_texts}
+use Rattle.qc_text.specs.ReadAgain.{read_again, words_alone}
+use Rattle.qc_text.specs.Printing.{as_text}
+use Rattle.qc_sample.specs.Sample.{sample, program, reserved}
+use Rattle.qc_sample.specs.Printed.{program_words, program_texts}
 use Rattle.qc_sample.proofs.writer.write_sample.Goals as goal
 
-pub returns : goal.returns
-returns c = λ tokens phrase.
-    c.in_ok-write_program.ensures ∙ ap (λ bytes. bytes ++ printed (program_words c.args.p.now)) c.new-out.ensures.items
-    ∙ sym (ap printed (program_texts tokens c.args.p.now phrase))
+pub returns-clause-words : goal.returns-clause-words
+returns-clause-words c = words_alone sample program reserved as_text program_words program_texts c.args.p.now
+    c.new-out.result.items c.write_program.new.out.items c.new-out.ensures.items c.in_ok-write_program.ensures
+
+pub returns-clause-again : goal.returns-clause-again
+returns-clause-again c = λ bytes text. read_again sample program reserved as_text c.printed_tokens_are_tokens.ensures
+    c.words_are_tokens.ensures c.texts_of_their_kinds.ensures c.one_end.ensures bytes c.args.p.now text
+    c.write_program.new.out.items (returns-clause-words c)

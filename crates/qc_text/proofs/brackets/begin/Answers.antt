@@ -6,7 +6,8 @@ use Rattle.qc_text.proofs.brackets.begin.Goals as goal
 
 pub front-given-requires : goal.front-given-requires
 front-given-requires c =
-    deep_within (map (λ x. x.now) c.args.reserved.now) c.args.source.now c.first_too_deep-deep.result c.args.tokens.now c.first_too_deep-deep.ensures
+    deep_within (map (λ x. x.now) c.args.reserved.now) c.args.source.now c.first_too_deep-deep.result c.args.tokens.now
+    c.first_too_deep-deep.ensures
 
 pub new-requires : goal.new-requires
 new-requires c =
@@ -16,4 +17,5 @@ new-requires c =
 pub returns-clause-given : goal.returns-clause-given
 returns-clause-given c =
     c.new.ensures ∙ ap (lexemes (map (λ x. x.now) c.args.reserved.now) c.args.source.now) c.front-given.ensures
-    ∙ lexemes-cut (map (λ x. x.now) c.args.reserved.now) c.args.source.now c.first_too_deep-deep.result c.args.tokens.now
+    ∙ lexemes-cut (map (λ x. x.now) c.args.reserved.now) c.args.source.now c.first_too_deep-deep.result
+    c.args.tokens.now

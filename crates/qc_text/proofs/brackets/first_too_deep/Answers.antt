@@ -13,5 +13,10 @@ pub loop-cursor-init : goal.loop-cursor-init
 loop-cursor-init c = record {
   found = from_zero _ ∙ ap (first_too_deep 0) c.new-cursor.ensures;
   few = omega arith;
-  room = omega (arith, ap length c.new-cursor.ensures, length-lexemes (map (λ x. x.now) c.args.reserved.now) c.args.source.now 0 c.args.tokens.now);
+  room = omega (
+    arith,
+    ap length c.new-cursor.ensures,
+    length-lexemes (map (λ x. x.now) c.args.reserved.now) c.args.source.now 0
+        c.args.tokens.now,
+  );
 }

@@ -8,4 +8,5 @@ returns-then-is_blank c = front_blank c.args.first c.args.rest.now (sym c.if-is_
 pub returns-else-is_punctuation : goal.returns-else-is_punctuation
 returns-else-is_punctuation c =
     no_other c.args.first c.args.rest.now (sym c.if-is_name_start.ensures) (sym c.if-is_ascii_digit.ensures.value)
-    c.if-first-eq37.false c.if-first-eq34.false c.if-first-eq47.false (sym c.if-is_blank.ensures) (sym c.if-is_punctuation.ensures)
+    c.if-first-eq37.false c.if-first-eq34.false c.if-first-eq47.false (sym c.if-is_blank.ensures)
+    (sym c.if-is_punctuation.ensures)

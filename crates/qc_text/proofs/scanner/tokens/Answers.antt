@@ -27,16 +27,25 @@ loop-piece-preserved c =
     record {
       places = omega (arith, old.places, c.split_at.ensures.back_len);
       told = λ tokens from.
-          let later : AreTokensFrom end (drop piece.length c.loop-piece.rest.now) tokens = subst (λ bytes. AreTokensFrom end bytes tokens) back from in
-          let all = old.told (token_at c.loop-piece.at piece.kind end ++ tokens) (more_tokens c.loop-piece.at c.loop-piece.rest.now piece tokens front later) in
-          let pushed : c.push_token.new.found.items ++ tokens ≡ c.loop-piece.found.items ++ (token_at c.loop-piece.at piece.kind end ++ tokens) =
-          ap (λ xs. xs ++ tokens) c.in-Ok.ensures ∙ append_assoc c.loop-piece.found.items (token_at c.loop-piece.at piece.kind end) tokens in
+          let later : AreTokensFrom end (drop piece.length c.loop-piece.rest.now) tokens =
+          subst (λ bytes. AreTokensFrom end bytes tokens) back from in
+          let all =
+          old.told (token_at c.loop-piece.at piece.kind end ++ tokens)
+          (more_tokens c.loop-piece.at c.loop-piece.rest.now piece tokens front later) in
+          let pushed : c.push_token.new.found.items ++ tokens ≡ c.loop-piece.found.items
+          ++ (token_at c.loop-piece.at piece.kind end ++ tokens) =
+          ap (λ xs. xs ++ tokens) c.in-Ok.ensures
+          ∙ append_assoc c.loop-piece.found.items (token_at c.loop-piece.at piece.kind end) tokens in
           subst (AreTokens c.args.bytes.now) (sym pushed) all;
       bad = λ place from.
-          old.bad place (bad_later c.loop-piece.at c.loop-piece.rest.now piece place front (subst (λ bytes. IsBadFrom end bytes place) back from));
+          old.bad place
+          (bad_later c.loop-piece.at c.loop-piece.rest.now piece place front
+          (subst (λ bytes. IsBadFrom end bytes place) back from));
     }
 
 pub returns-then-not-is_empty : goal.returns-then-not-is_empty
 returns-then-not-is_empty c =
-    let some : c.loop-piece.rest.now ≢ [] = λ none. eqb-false (length c.loop-piece.rest.now) 0 (sym c.if-not-is_empty.ensures) (ap length none) in
-    c.loop-piece.invariant.bad c.loop-piece.at (bad_here c.loop-piece.at c.loop-piece.rest.now some c.in_default.ensures)
+    let some : c.loop-piece.rest.now ≢ [] =
+    λ none. eqb-false (length c.loop-piece.rest.now) 0 (sym c.if-not-is_empty.ensures) (ap length none) in
+    c.loop-piece.invariant.bad c.loop-piece.at
+    (bad_here c.loop-piece.at c.loop-piece.rest.now some c.in_default.ensures)

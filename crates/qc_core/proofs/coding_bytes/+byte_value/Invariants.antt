@@ -1,5 +1,0 @@
-use Rattle.std.proofs.Common.{length}
-use Rattle.qc_core.proofs.coding_bytes.+byte_value.Given as goal
-
-abbrev pub decreases-byte_value : goal.decreases-byte_value
-decreases-byte_value l = length l.bits.now

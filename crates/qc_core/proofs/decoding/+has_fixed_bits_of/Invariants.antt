@@ -1,5 +1,0 @@
-use Rattle.std.proofs.Common.{length}
-use Rattle.qc_core.proofs.decoding.+has_fixed_bits_of.Given as goal
-
-abbrev pub decreases-has_fixed_bits_of : goal.decreases-has_fixed_bits_of
-decreases-has_fixed_bits_of l = length l.bits.now

@@ -1,0 +1,2 @@
+pub mod DecodedOperands
+pub mod Instances

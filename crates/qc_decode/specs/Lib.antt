@@ -1,0 +1,9 @@
+pub mod Decoder
+pub mod Decoding
+pub use Rattle.qc_descr.specs.Coding
+pub use Rattle.qc_descr.specs.Description
+pub use Rattle.qc_descr.specs.Encoding
+pub use Rattle.qc_descr.specs.Machine
+pub use Rattle.qc_descr.specs.Reach
+pub use Rattle.qc_descr.specs.Step
+pub use Rattle.qc_descr.specs.Valid

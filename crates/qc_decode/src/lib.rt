@@ -1,0 +1,11 @@
+//! Instances from bytes: which instance of a description stands in a memory at an address.
+//!
+//! The encodings are those of Ramsey and Fernandez, "Specifying representations of machine instructions",
+//! TOPLAS 1997.
+#![tactic(auto)]
+
+mod bytes;
+mod decoder;
+mod operands;
+
+pub use decoder::Decoder;

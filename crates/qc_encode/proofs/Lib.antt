@@ -1,0 +1,3 @@
+pub mod Codable
+pub mod Read
+pub mod Written
