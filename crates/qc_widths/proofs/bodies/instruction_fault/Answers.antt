@@ -1,0 +1,31 @@
+use Rattle.std.proofs.Common.{◌≡◌, ◌++◌, List, map, drop, sym, ap, ◌∙◌}
+use Rattle.std.specs.List.{flat_map}
+use Rattle.qc_widths.specs.declared.faults.WidthFault.{WidthFault}
+use Rattle.qc_widths.specs.declared.faults.WidthFault.TheVariants.{TwiceNamed}
+use Rattle.qc_widths.specs.Faults.{told, told_of_both}
+use Rattle.qc_widths.specs.Scopes.{Names}
+use Rattle.qc_widths.specs.Effects.{effect_faults, effect_events}
+use Rattle.qc_widths.specs.Declarations.{names_for, locals_of_operands}
+use Rattle.qc_widths.specs.Elaboration.{all_signatures, names_of_operands}
+use Rattle.qc_widths.specs.NamesAt.{names_at}
+use Rattle.qc_widths.proofs.Told.{told-append}
+use Rattle.qc_widths.proofs.Earlier.{all_of_them}
+use Rattle.qc_widths.proofs.bodies.instruction_fault.Goals as goal
+
+pub returns : goal.returns
+unfolding names_of_operands
+returns c =
+    let t = c.args.context.now in
+    let faults : Names → List WidthFault = λ names. flat_map (effect_faults names) c.args.body.now in
+    let second : Names → List WidthFault =
+    λ names. map TwiceNamed (drop 1 (flat_map (effect_events names) c.args.body.now)) in
+    let names : Names = names_at c.names_in-names.result in
+    let is : names ≡ names_of_operands t c.args.operands.now =
+    c.names_in-names.ensures.names
+    ∙ ap (λ functions. names_for t.facts.now functions (locals_of_operands c.args.operands.now))
+    (all_of_them (all_signatures t) t.signatures.now c.requires.signatures) in
+    c.earlier.ensures
+    ∙ ap (λ f. told_of_both f c.twice_fault.result) c.body_fault.ensures
+    ∙ ap (told_of_both (told (faults names))) c.twice_fault.ensures
+    ∙ sym (told-append (faults names) (second names))
+    ∙ ap (λ n. told (faults n ++ second n)) is

@@ -1,0 +1,13 @@
+use Rattle.std.proofs.Common.{◌≡◌, true, drop}
+use Rattle.std.specs.List.{list_all}
+use Rattle.qc_widths.specs.Given.{has_small_cells}
+use Rattle.qc_widths.specs.Machine.{first_given, allocatable_given}
+use Rattle.qc_widths.proofs.given.allocatable_given.Given as goal
+
+-- no item so far gives one
+abbrev pub invariant-loop-item : goal.invariant-loop-item
+invariant-loop-item l = record {
+  found : first_given (allocatable_given l.facts) (drop l.item-index l.items)
+      ≡ first_given (allocatable_given l.facts) l.items;
+  small : list_all has_small_cells (drop l.item-index l.items) ≡ true;
+}

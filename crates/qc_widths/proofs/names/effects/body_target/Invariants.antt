@@ -1,0 +1,10 @@
+use Rattle.std.proofs.Common.{◌≡◌, take}
+use Rattle.std.specs.List.{flat_map}
+use Rattle.qc_widths.specs.Effects.{effect_targets}
+use Rattle.qc_widths.specs.Summaries.{least}
+use Rattle.qc_widths.specs.NamesAt.{names_at}
+use Rattle.qc_widths.proofs.names.effects.body_target.Given as goal
+
+abbrev pub invariant-loop-effect : goal.invariant-loop-effect
+invariant-loop-effect l =
+    l.found ≡ least (flat_map (effect_targets (names_at l.names) l.name) (take l.effect-index l.body))

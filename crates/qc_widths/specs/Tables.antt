@@ -1,0 +1,42 @@
+-- Symbol tables.
+use Rattle.std.specs.Prelude.{ℕ, ◌≡◌, ◌<◌, ◌≤◌, ◌^◌, All, cond, List, [], ◌∷◌, ◌++◌, length, map, take, slice_get, Option, None, Some}
+use Rattle.std.specs.List.{flat_map}
+use Rattle.std.specs.Str.{bytes_eq}
+use Rattle.qc_lrtl.specs.declared.syntax.Item.{Item}
+use Rattle.qc_widths.specs.declared.facts.SpaceFacts.{SpaceFacts}
+use Rattle.qc_widths.specs.Numbers.{is_there}
+use Rattle.qc_widths.specs.Scopes.{placed_from}
+use Rattle.qc_widths.specs.Declarations.{place_of, function_name, function_items}
+
+-- the number that the entries give a name
+abbrev pub number_at : List (List ℕ × ℕ) → List ℕ → Option ℕ
+number_at [] name = None
+number_at (e ∷ es) name = cond (bytes_eq name e.0) (Some e.1) (number_at es name)
+
+-- the entries after a name is entered, which stay as they are where they have it
+abbrev pub entered : List (List ℕ × ℕ) → List ℕ → ℕ → List (List ℕ × ℕ)
+entered es name number = cond (is_there (number_at es name)) es (es ++ (name, number) ∷ [])
+
+-- the first place of a name among these
+abbrev pub first_place : List (List ℕ) → List ℕ → Option ℕ
+first_place names name = place_of (placed_from 0 (λ n. n) names name)
+
+-- The entries give each of these names its first place among them, and no other name.
+pub record IsIndexOf (names : List (List ℕ)) (es : List (List ℕ × ℕ)) : Type 0 where
+  pub places : (name : List ℕ) → number_at es name ≡ first_place names name
+
+-- The spaces have their places in a table. The place of each and the number of each of its cells fit their types.
+pub record HasTable (spaces : List SpaceFacts) (es : List (List ℕ × ℕ)) : Type 0 where
+  pub index : IsIndexOf (map (λ s. s.name) spaces) es
+  pub few : length spaces < 2 ^ 32
+  pub small : All (λ s. s.cells ≤ 2 ^ 64) spaces
+
+-- The functions and named effects have their numbers in a table.
+pub record AreNumbered (items : List Item) (es : List (List ℕ × ℕ)) : Type 0 where
+  pub index : IsIndexOf (map (λ n. n.text) (flat_map function_name items)) es
+  pub count : length (flat_map function_name items) ≡ length items
+
+-- The first items, so many, have their functions and named effects at these places, and their names in a table.
+pub record HasFirst (items : List Item) (count : ℕ) (places : List ℕ) (es : List (List ℕ × ℕ)) : Type 0 where
+  pub at : map (slice_get items) places ≡ map Some (function_items (take count items))
+  pub numbered : AreNumbered (function_items (take count items)) es

@@ -1,0 +1,14 @@
+//! What is looked up while items are elaborated.
+use crate::facts::Facts;
+use crate::functions::Functions;
+use crate::signatures::Signature;
+use qc_lrtl::Item;
+
+/// The items of a machine, the facts and the functions that they declare, and what is told of these without their uses.
+#[derive(Clone, Copy)]
+pub(crate) struct Context<'a> {
+    pub facts: &'a Facts,
+    pub items: &'a [Item],
+    pub functions: &'a Functions,
+    pub signatures: &'a [Signature],
+}

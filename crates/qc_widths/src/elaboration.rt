@@ -1,0 +1,118 @@
+//! Machines from their texts.
+ghost use Rattle.std.specs.Prelude.{◌≡◌, map, None, IfOk};
+ghost use Rattle.qc_descr.specs.Parts.{AreParts};
+ghost use Rattle.qc_widths.specs.Declarations.{facts_in, signatures_in};
+ghost use Rattle.qc_widths.specs.Faults.{told};
+ghost use Rattle.qc_widths.specs.Machine.{Elaborates, faults_of, machine_of};
+ghost use Rattle.qc_widths.specs.Elaboration.{OperationsUnless, faults_in_items, operations_in};
+ghost use Rattle.qc_widths.specs.Functions.{IsTableOf};
+ghost use Rattle.qc_widths.specs.Summaries.{summary};
+
+use crate::context::Context;
+use crate::facts::Facts;
+use crate::faults::{WidthEnd, WidthFault};
+use crate::functions::Functions;
+use crate::given::{given, spaces_given};
+use crate::machine::Machine;
+use crate::order::earlier;
+use crate::progress::{Progress, elaborate_items};
+use crate::repeated::second_names;
+use crate::signatures::{Signature, signatures};
+use qc_descr::Operation;
+use qc_lrtl::{Item, RawMachine};
+use qc_text::Text;
+use sqlite_items::Items;
+use std::alloc::{AllocError, Global};
+
+impl From<AllocError> for WidthEnd {
+    ghost use Rattle.std.specs.Prelude.{◌≡◌};
+    ghost use Rattle.qc_widths.specs.declared.faults.WidthEnd.TheVariants.{NoMemory};
+
+    ghost from_gives = { λ _ e. e ≡ NoMemory };
+
+    fn from(_: AllocError) -> WidthEnd {
+        WidthEnd::NoMemory
+    }
+}
+
+/// The fault that is told of all items, and their operations, which are whole where no fault is told.
+fn fault_with_functions<'a>(
+    alloc: Global,
+    facts: &'a Facts,
+    items: &'a [Item],
+    functions: &'a Functions,
+    signatures: &'a [Signature],
+) -> Result<(Option<WidthFault>, Items<Operation>), AllocError>
+    requires facts { facts.now ≡ facts_in items.now }
+    requires functions { IsTableOf items.now functions.now }
+    requires signatures { signatures.now ≡ map summary (signatures_in facts.now items.now) }
+    ensures fault { IfOk result (λ r. r.0 ≡ told (faults_in_items items.now)) }
+    ensures operations { IfOk result (λ r. OperationsUnless r.0 r.1 (operations_in items.now)) }
+{
+    let context = Context {
+        facts,
+        items,
+        functions,
+        signatures,
+    };
+    let second = second_names(alloc, items)?;
+    let Progress {
+        fault,
+        operations,
+        ..
+    } = elaborate_items(alloc, &context)?;
+    Ok((earlier(second, fault), operations))
+}
+
+/// The same, with the functions that the items declare.
+fn fault_and_operations<'a>(
+    alloc: Global,
+    facts: &'a Facts,
+    items: &'a [Item],
+) -> Result<(Option<WidthFault>, Items<Operation>), AllocError>
+    requires { facts.now ≡ facts_in items.now }
+    ensures fault { IfOk result (λ r. r.0 ≡ told (faults_in_items items.now)) }
+    ensures operations { IfOk result (λ r. OperationsUnless r.0 r.1 (operations_in items.now)) }
+{
+    match Functions::new(alloc, items) {
+        Err(error) => Err(error),
+        Ok(functions) => {
+            let signatures = signatures(alloc, facts, items, &functions)?;
+            fault_with_functions(alloc, facts, items, &functions, signatures.as_slice())
+        }
+    }
+}
+
+/// The machine of a text without a fault.
+fn machine(
+    alloc: Global,
+    raw: &RawMachine,
+    facts: &Facts,
+    operations: Items<Operation>,
+) -> Result<Machine, AllocError>
+    requires facts { facts.now ≡ facts_in raw.now.items }
+    requires operations { operations ≡ operations_in raw.now.items }
+    requires fault { told (faults_of raw.now) ≡ None }
+    ensures { IfOk result (λ machine. machine ≡ machine_of raw.now) }
+{
+    Ok(Machine {
+        name: Text::new(alloc, raw.name.text.as_slice())?,
+        given: given(facts, raw.items.as_slice()),
+        spaces: spaces_given(alloc, facts)?,
+        operations,
+    })
+}
+
+/// The machine that a text means, or the fault that is told of it.
+pub fn elaborate(alloc: Global, raw: &RawMachine) -> Result<Machine, WidthEnd>
+    ensures answer { Elaborates raw.now result }
+    ensures keeps { IfOk result (λ machine. AreParts machine.given machine.spaces machine.operations) }
+{
+    let items = raw.items.as_slice();
+    let facts = Facts::new(alloc, items)?;
+    let (fault, operations) = fault_and_operations(alloc, &facts, items)?;
+    match fault {
+        Some(fault) => Err(WidthEnd::Fault { fault }),
+        None => Ok(machine(alloc, raw, &facts, operations)?),
+    }
+}

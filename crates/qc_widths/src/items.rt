@@ -1,0 +1,108 @@
+//! Items, one after the other: their faults, and the operations that they declare.
+ghost use Rattle.std.specs.Prelude.{◌≡◌, ◌++◌, ◌+◌, ◌≤◌, length, take, None, IfOk, OnOk};
+ghost use Rattle.qc_widths.specs.Faults.{told};
+ghost use Rattle.qc_widths.specs.Declarations.{meanings_in, function_name, instruction_name, space_name};
+ghost use Rattle.qc_widths.specs.Machine.{item_faults, operation_of_item};
+ghost use Rattle.qc_widths.specs.Elaboration.{IsContext, OperationUnless, all_signatures, faults_of_item, operations_of_item};
+
+use crate::bodies::{effects_fault, function_fault};
+use crate::context::Context;
+use crate::faults::WidthFault;
+use crate::limits::space_fault;
+use crate::numbers::width_fault;
+use crate::operations::{Outcome, instruction};
+use crate::order::earlier;
+use crate::repeated::params_fault;
+use qc_lrtl::Item;
+use std::alloc::{AllocError, Global};
+
+/// How many functions, instructions and spaces stand before an item.
+#[derive(Clone, Copy, Debug, PartialEq, Eq)]
+pub(crate) struct Counts {
+    pub functions: usize,
+    pub instructions: usize,
+    pub spaces: usize,
+}
+
+fn no_operation(fault: Option<WidthFault>) -> Outcome
+    ensures { result ≡ record { fault = fault; operation = None } }
+{
+    Outcome {
+        fault,
+        operation: None,
+    }
+}
+
+/// An item behind so many others.
+#[tactic(auto, unfolding(crate::specs::Elaboration::names_of_params, crate::specs::Elaboration::all_signatures), using(crate::proofs::Told::told_parts))]
+pub(crate) fn elaborate_item(
+    alloc: Global,
+    context: &Context<'_>,
+    counts: Counts,
+    item: &Item,
+) -> Result<Outcome, AllocError>
+    requires context { IsContext context.now }
+    requires level { counts.functions ≤ length (all_signatures context.now) }
+    ensures fault { IfOk result (λ r. r.fault ≡ told (faults_of_item context.now counts item.now)) }
+    ensures operation { IfOk result (λ r. OperationUnless r.fault r.operation (operations_of_item context.now
+        item.now)) }
+{
+    let level = counts.functions;
+    match item {
+        Item::Word { bits, .. } => Ok(no_operation(width_fault(bits))),
+        Item::Space {
+            token,
+            cells,
+            bits,
+            ..
+        } => Ok(no_operation(space_fault(*token, cells, bits, counts.spaces))),
+        Item::Zero { space, cell, .. }
+        | Item::Frame { space, cell, .. }
+        | Item::Link { space, cell, .. } => {
+            Ok(no_operation(context.facts.cell_fault(space, cell)))
+        }
+        Item::Allocatable {
+            space,
+            first,
+            last,
+            ..
+        } => {
+            let first = context.facts.cell_fault(space, first);
+            Ok(no_operation(earlier(first, context.facts.cell_fault(space, last))))
+        }
+        Item::Function { params, body, .. } => {
+            let names = params_fault(alloc, params.as_slice())?;
+            Ok(no_operation(earlier(
+                names,
+                function_fault(context, level, params.as_slice(), body),
+            )))
+        }
+        Item::Effects { params, body, .. } => {
+            let names = params_fault(alloc, params.as_slice())?;
+            let effects = effects_fault(context, level, params.as_slice(), body.as_slice());
+            Ok(no_operation(earlier(names, effects)))
+        }
+        Item::Instruction {
+            token,
+            name,
+            operands,
+            body,
+        } => {
+            instruction(
+                alloc,
+                context,
+                counts.instructions,
+                *token,
+                name,
+                operands.as_slice(),
+                body.as_slice(),
+            )
+        }
+        Item::ByteOrder { .. }
+        | Item::Align { .. }
+        | Item::SlotBits { .. }
+        | Item::Memory { .. }
+        | Item::Code { .. }
+        | Item::Data { .. } => Ok(no_operation(None)),
+    }
+}

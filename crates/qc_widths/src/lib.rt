@@ -1,0 +1,40 @@
+//! Machines from their texts: names are resolved, named functions are replaced by their bodies, and widths are found.
+//!
+//! The texts are after lambda-RTL (Ramsey and Davidson, "Machine descriptions to build tools for embedded systems",
+//! LCTES 1998).
+#![tactic(auto)]
+
+mod acts;
+mod bodies;
+mod context;
+mod elaboration;
+mod evaluate;
+mod facts;
+mod faults;
+mod functions;
+mod gather;
+mod given;
+mod items;
+mod limits;
+mod machine;
+mod name_table;
+mod names;
+mod nodes;
+mod numbers;
+mod operations;
+mod operators;
+mod order;
+mod progress;
+mod repeated;
+mod scope;
+mod signatures;
+mod spaces;
+mod terms;
+mod value;
+
+pub use elaboration::elaborate;
+pub use faults::{WidthEnd, WidthFault};
+pub use machine::Machine;
+
+#[cfg(test)]
+mod tests;

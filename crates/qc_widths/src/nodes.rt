@@ -1,0 +1,475 @@
+//! What each node of an expression comes to, by what its parts come to.
+ghost use Rattle.std.specs.Prelude.{◌≡◌, ◌+◌, ◌<◌, ◌^◌, ◌&&◌, min, IfOk, if◌then◌else◌, List, None, false};
+ghost use Rattle.qc_words.specs.Operators.{is_unary as is_unary_operator, result_width_of};
+ghost use Rattle.qc_words.specs.declared.operator.Op.TheVariants as op;
+ghost use Rattle.qc_terms.specs.declared.term.Term.TheVariants as term;
+ghost use Rattle.qc_widths.specs.declared.faults.WidthFault.{WidthFault as Fault};
+ghost use Rattle.qc_widths.specs.Evaluated.{IsValue};
+ghost use Rattle.qc_widths.specs.Expressions.{value_of_cell};
+ghost use Rattle.qc_widths.specs.Faults.{told};
+ghost use Rattle.qc_widths.specs.Numbers.{is_empty, is_there};
+ghost use Rattle.qc_widths.specs.Numbers as numbers;
+ghost use Rattle.qc_widths.specs.Scopes as scopes;
+ghost use Rattle.qc_widths.specs.Values as values;
+
+use crate::facts::{Facts, OperandFacts, Target};
+use crate::faults::WidthFault;
+use crate::numbers::{access_fault, access_width, literal_fault, width_in};
+use crate::order::earlier;
+use crate::value::{Built, LIMIT, Value, faulty, leaf, node};
+use qc_terms::{Place, Term};
+use qc_text::Number;
+use qc_words::{Op, Width, result_width};
+use sqlite_items::Boxed;
+use std::alloc::{AllocError, Global};
+
+/// The width of a term, which has no meaning where none is known.
+pub(crate) fn bits_of(width: &Option<Width>) -> Width
+    ensures { result ≡ values.bits_of width.now }
+{
+    match width {
+        Some(width) => *width,
+        None => Width::ONE,
+    }
+}
+
+/// Whether two parts are sound.
+fn both(first: bool, second: bool) -> bool
+    ensures { result ≡ (first && second) }
+{
+    first && second
+}
+
+/// Whether a node is sound, by its parts and its number.
+fn has_width(sound: bool, width: &Option<Width>) -> bool
+    ensures { result ≡ (sound && is_there width.now) }
+{
+    match width {
+        Some(_) => sound,
+        None => false,
+    }
+}
+
+/// Whether a node is sound, by its parts and a fault of its number.
+#[tactic(auto, using(crate::proofs::Seen::none_told, crate::proofs::Seen::unsound))]
+fn is_free(sound: bool, fault: Option<WidthFault>) -> bool
+    ensures { (faults : List Fault) → fault ≡ told faults → result ≡ (sound && is_empty faults) }
+{
+    match fault {
+        Some(_) => false,
+        None => sound,
+    }
+}
+
+/// A clash of two widths, of which 65 stands for all above 64.
+fn clash(token: usize, found: u128, wanted: u128) -> WidthFault
+    ensures { result ≡ numbers.clash token found wanted }
+{
+    WidthFault::WidthClash {
+        token,
+        found: found.min(65) as u8,
+        wanted: wanted.min(65) as u8,
+    }
+}
+
+/// A width that is not the one that its place wants.
+pub(crate) fn mismatch(
+    token: usize,
+    found: Option<Width>,
+    wanted: Option<Width>,
+) -> Option<WidthFault>
+    ensures { result ≡ told (values.mismatch token found wanted) }
+{
+    match (found, wanted) {
+        (Some(found), Some(wanted)) if found.bits() != wanted.bits() => {
+            Some(clash(token, found.bits().into(), wanted.bits().into()))
+        }
+        _ => None,
+    }
+}
+
+/// A width that is above a given one.
+fn excess(token: usize, found: Option<Width>, most: Option<Width>) -> Option<WidthFault>
+    ensures { result ≡ told (values.excess token found most) }
+{
+    match (found, most) {
+        (Some(found), Some(most)) if found.bits() > most.bits() => {
+            Some(clash(token, found.bits().into(), most.bits().into()))
+        }
+        _ => None,
+    }
+}
+
+/// A slice past the end of its operand.
+fn past_end(
+    token: usize,
+    found: Option<Width>,
+    low: &Number,
+    to: Option<Width>,
+) -> Option<WidthFault>
+    ensures { result ≡ told (values.past_end token found low.now.value to) }
+{
+    match (found, to) {
+        (Some(found), Some(to)) => {
+            let end = low.value.min(64) + u128::from(to.bits());
+            if u128::from(found.bits()) < end {
+                Some(clash(token, found.bits().into(), end))
+            } else {
+                None
+            }
+        }
+        _ => None,
+    }
+}
+
+/// The value of a literal.
+#[tactic(auto, using(crate::proofs::Seen::trees))]
+pub(crate) fn literal(value: &Number, bits: &Number) -> Value
+    ensures { IsValue result (values.literal value.now bits.now) }
+{
+    match literal_fault(value, bits) {
+        Some(_) => faulty(value.token),
+        None => {
+            let width = width_in(bits);
+            let term = Term::Num {
+                value: value.value as u64,
+                width: bits_of(&width),
+            };
+            leaf(value.token, term, width)
+        }
+    }
+}
+
+/// The next word of the input.
+#[tactic(auto, using(crate::proofs::Seen::trees))]
+pub(crate) fn input(word: Option<Width>, token: usize) -> Value
+    ensures { IsValue result (values.input word token) }
+{
+    let term = Term::Input {
+        width: bits_of(&word),
+    };
+    leaf(token, term, word)
+}
+
+/// The address after the instruction.
+#[tactic(auto, using(crate::proofs::Seen::trees))]
+pub(crate) fn after(word: Option<Width>, token: usize) -> Value
+    ensures { IsValue result (values.after word token) }
+{
+    let term = Term::After {
+        width: bits_of(&word),
+    };
+    leaf(token, term, word)
+}
+
+/// The value of a memory access at an address.
+pub(crate) fn load(
+    alloc: Global,
+    facts: &Facts,
+    token: usize,
+    bits: &Number,
+    address: Value,
+) -> Result<Value, AllocError>
+    ensures { (spec : values.Value) → IsValue address spec
+        → IfOk result (λ v. IsValue v (values.load facts.now.word token bits.now spec)) }
+{
+    match address {
+        Value::Huge => Ok(Value::Huge),
+        Value::Known {
+            token: start,
+            term,
+            nodes,
+            width,
+            sound,
+            clash,
+        } => {
+            if nodes >= LIMIT {
+                return Ok(Value::Huge);
+            }
+            let access = access_width(facts.word(), bits);
+            let address = Boxed::new(alloc, term)?;
+            let term = Term::Mem {
+                width: bits_of(&access),
+                address,
+            };
+            Ok(node(Built {
+                token,
+                term,
+                nodes: nodes + 1,
+                width: access,
+                sound: is_free(sound, access_fault(facts.word(), bits)),
+                inner: clash,
+                own: mismatch(start, width, facts.word()),
+            }))
+        }
+    }
+}
+
+/// The value of an extension, which is signed or not.
+pub(crate) fn extension(
+    alloc: Global,
+    is_signed: bool,
+    token: usize,
+    bits: &Number,
+    arg: Value,
+) -> Result<Value, AllocError>
+    ensures { (spec : values.Value) → IsValue arg spec
+        → IfOk result (λ v. IsValue v (values.extension (if is_signed then op.Sx else op.Zx) token bits.now spec)) }
+{
+    match arg {
+        Value::Huge => Ok(Value::Huge),
+        Value::Known {
+            token: start,
+            term,
+            nodes,
+            width,
+            sound,
+            clash,
+        } => {
+            if nodes >= LIMIT {
+                return Ok(Value::Huge);
+            }
+            let to = width_in(bits);
+            let arg = Boxed::new(alloc, term)?;
+            let op = extension_to(is_signed, bits_of(&to));
+            Ok(node(Built {
+                token,
+                term: Term::Un { op, arg },
+                nodes: nodes + 1,
+                sound: has_width(sound, &to),
+                width: to,
+                inner: clash,
+                own: excess(start, width, width_in(bits)),
+            }))
+        }
+    }
+}
+
+/// An extension to a width.
+fn extension_to(is_signed: bool, to: Width) -> Op
+    ensures { result ≡ (if is_signed then op.Sx else op.Zx) to }
+{
+    if is_signed {
+        Op::Sx { to }
+    } else {
+        Op::Zx { to }
+    }
+}
+
+/// The value of a slice.
+pub(crate) fn slice(
+    alloc: Global,
+    token: usize,
+    low: &Number,
+    bits: &Number,
+    arg: Value,
+) -> Result<Value, AllocError>
+    ensures { (spec : values.Value) → IsValue arg spec
+        → IfOk result (λ v. IsValue v (values.slice token low.now bits.now spec)) }
+{
+    match arg {
+        Value::Huge => Ok(Value::Huge),
+        Value::Known {
+            token: start,
+            term,
+            nodes,
+            width,
+            sound,
+            clash,
+        } => {
+            if nodes >= LIMIT {
+                return Ok(Value::Huge);
+            }
+            let to = width_in(bits);
+            let arg = Boxed::new(alloc, term)?;
+            let op = Op::Slice {
+                low: low.value.min(64) as u8,
+                to: bits_of(&to),
+            };
+            Ok(node(Built {
+                token,
+                term: Term::Un { op, arg },
+                nodes: nodes + 1,
+                sound: has_width(sound, &to),
+                width: to,
+                inner: clash,
+                own: past_end(start, width, low, width_in(bits)),
+            }))
+        }
+    }
+}
+
+/// The value of an operator of one operand.
+pub(crate) fn unary(alloc: Global, op: Op, token: usize, arg: Value) -> Result<Value, AllocError>
+    ensures { (spec : values.Value) → IsValue arg spec → IfOk result (λ v. IsValue v (values.unary op token spec)) }
+{
+    match arg {
+        Value::Huge => Ok(Value::Huge),
+        Value::Known {
+            token: _,
+            term,
+            nodes,
+            width,
+            sound,
+            clash,
+        } => {
+            if nodes >= LIMIT {
+                return Ok(Value::Huge);
+            }
+            let arg = Boxed::new(alloc, term)?;
+            Ok(node(Built {
+                token,
+                term: Term::Un { op, arg },
+                nodes: nodes + 1,
+                width,
+                sound,
+                inner: clash,
+                own: None,
+            }))
+        }
+    }
+}
+
+/// Whether an operator has one operand.
+pub(crate) fn takes_one(op: &Op) -> bool
+    ensures { result ≡ is_unary_operator op.now }
+{
+    match op {
+        Op::Com | Op::Neg | Op::Zx { .. } | Op::Sx { .. } | Op::Slice { .. } => true,
+        _ => false,
+    }
+}
+
+/// The width of a comparison's value, which does not hang on its operands.
+fn own_width(op: &Op) -> Option<Width>
+    requires { is_unary_operator op.now ≡ false }
+    ensures { result ≡ values.width_of_operator op.now None None }
+{
+    match op {
+        Op::Eq | Op::Ne | Op::Lt | Op::Ge | Op::Ltu | Op::Geu => Some(Width::ONE),
+        _ => None,
+    }
+}
+
+/// The width of an operator's value, by those of its operands.
+fn operator_width(op: &Op, left: &Option<Width>, right: &Option<Width>) -> Option<Width>
+    requires { is_unary_operator op.now ≡ false }
+    ensures { result ≡ values.width_of_operator op.now left.now right.now }
+{
+    match left {
+        Some(width) => Some(result_width(*op, *width)),
+        None => match right {
+            Some(width) => Some(result_width(*op, *width)),
+            None => own_width(op),
+        },
+    }
+}
+
+/// The value of an operator of two operands.
+pub(crate) fn binary(
+    alloc: Global,
+    op: Op,
+    token: usize,
+    left: Value,
+    right: Value,
+) -> Result<Value, AllocError>
+    requires { is_unary_operator op ≡ false }
+    ensures { (one two : values.Value) → IsValue left one → IsValue right two
+        → IfOk result (λ v. IsValue v (values.binary op token one two)) }
+{
+    match left {
+        Value::Huge => Ok(Value::Huge),
+        Value::Known {
+            token: _,
+            term,
+            nodes,
+            width,
+            sound,
+            clash,
+        } => match right {
+            Value::Huge => Ok(Value::Huge),
+            Value::Known {
+                token: second,
+                term: right,
+                nodes: more,
+                width: found,
+                sound: is_sound,
+                clash: later,
+            } => {
+                let nodes = nodes.saturating_add(more);
+                if nodes >= LIMIT {
+                    return Ok(Value::Huge);
+                }
+                let left = Boxed::new(alloc, term)?;
+                let right = Boxed::new(alloc, right)?;
+                let joint = operator_width(&op, &width, &found);
+                let own = mismatch(second, found, width);
+                let inner = earlier(clash, later);
+                let sound = both(sound, is_sound);
+                let term = Term::Bin { op, left, right };
+                Ok(node(Built {
+                    token,
+                    term,
+                    nodes: nodes + 1,
+                    width: joint,
+                    sound,
+                    inner,
+                    own,
+                }))
+            }
+        },
+    }
+}
+
+/// The value of an operand at a token.
+#[tactic(auto, using(crate::proofs::Seen::trees))]
+pub(crate) fn operand_value(
+    word: Option<Width>,
+    number: u32,
+    facts: OperandFacts,
+    token: usize,
+) -> Value
+    ensures { IsValue result (scopes.operand_value word number facts token) }
+{
+    match facts {
+        OperandFacts::Register { space, width } => {
+            let place = Place::Operand { space, number };
+            let term = Term::Reg {
+                place,
+                width: bits_of(&width),
+            };
+            leaf(token, term, width)
+        }
+        OperandFacts::Immediate { width } => {
+            let term = Term::Imm {
+                operand: number,
+                width: bits_of(&width),
+            };
+            leaf(token, term, width)
+        }
+        OperandFacts::Address => {
+            let term = Term::Imm {
+                operand: number,
+                width: bits_of(&word),
+            };
+            leaf(token, term, word)
+        }
+    }
+}
+
+/// The value of a cell at a token, if there is one.
+#[tactic(auto, using(crate::proofs::Seen::trees))]
+pub(crate) fn cell_value(target: Option<Target>, token: usize) -> Value
+    ensures { IsValue result (value_of_cell target token) }
+{
+    match target {
+        None => faulty(token),
+        Some(target) => {
+            let term = Term::Reg {
+                place: target.place,
+                width: bits_of(&target.width),
+            };
+            leaf(token, term, target.width)
+        }
+    }
+}
