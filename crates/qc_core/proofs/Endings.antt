@@ -1,6 +1,6 @@
 -- What the parts of a command come to together.
 use Rattle.std.proofs.Common.{◌≡◌, ◌≤◌, ◌⊎◌, ℕ, List, refl, sym, ap, subst, ◌∙◌, arith, inl, inr, ⊎_elim}
-use Rattle.std.specs.Prelude.{Option, None, Some, IfSome, [], unwrap_or, cond}
+use Rattle.std.specs.Prelude.{drop, Option, None, Some, IfSome, [], unwrap_or, cond}
 use Rattle.std.specs.Cmp.{eq_by_cmp_equiv}
 use Rattle.std.specs.Cmp.Lexicographic.{nat_list_cmp_total}
 use Rattle.std.specs.FinMap.{get, insert, get-insert}
@@ -8,14 +8,17 @@ use Rattle.qc_terms.specs.declared.image.Image.{Image}
 use Rattle.qc_core.specs.declared.answer.Status.{Status}
 use Rattle.qc_core.specs.declared.answer.Status.TheVariants.{Done, Refused, Usage, ReadFault, WriteFault, OutFault, NoMemory}
 use Rattle.qc_core.specs.declared.constants.ConstantProgram.{ConstantProgram}
-use Rattle.qc_core.specs.Answer.{Outside, FailsToPut, IsAccepted, IsPut, IsRefused, AnswerLeaves, NamesInput, Stores, compiled_line, name_of, refusal_line}
-use Rattle.qc_core.specs.Stages.{Finishes, IsStored, StopsReading, TellsImage, TellsRefusal}
+use Rattle.qc_core.specs.Answer.{Outside, FailsToPut, IsAccepted, IsFaultOfCompile, IsPut, IsRefused, AnswerLeaves, Stores}
+use Rattle.qc_core.specs.Stages.{Finishes, IsStored, StopsReading, TellsLine, TellsRefusal}
 use Rattle.qc_core.specs.declared.answer.Fault.{Fault}
-use Rattle.qc_core.specs.Files.{Files, content_of}
+use Rattle.qc_core.specs.Files.{Files, content_of, name_of}
 use Rattle.qc_core.specs.Headline.{IsCompiledTold}
 use Rattle.qc_core.specs.ImageFile.{image_bytes}
+use Rattle.qc_core.specs.Lines.{compiled_line, refusal_line}
 use Rattle.qc_descr.specs.Step.{OneInstance}
+use Rattle.qc_core.specs.Command.{IsCompile}
 use Rattle.qc_core.proofs.Agreement.{agreement}
+use Rattle.qc_core.proofs.Exclusions.{names_are}
 use Rattle.qc_core.proofs.Emitted.{image_fits}
 use Rattle.qc_core.proofs.Tin32Valid.{tin32_valid}
 use Rattle.qc_core.specs.ConstantProgram.{IsConstantProgram}
@@ -23,7 +26,7 @@ use Rattle.qc_core.specs.Code.{image_of}
 use Rattle.qc_core.specs.Tin32.{tin32}
 
 -- the line of the image that was stored
-pub finishes_told : (p : ConstantProgram) (name : List ℕ) (image : Image) (old new : Outside) (status : Status) → image ≡ image_of tin32 p → IsStored p name old.files new.files → TellsImage image old.written new.written old.out_faults new.out_faults status → Finishes p name old new status
+pub finishes_told : (p : ConstantProgram) (name : List ℕ) (image : Image) (old new : Outside) (status : Status) → image ≡ image_of tin32 p → IsStored p name old.files new.files → TellsLine (compiled_line image) old.written new.written old.out_faults new.out_faults status → Finishes p name old new status
 finishes_told p name image old new Done same stored told =
     (stored, subst (λ i. IsPut (compiled_line i) old.written new.written) same told)
 finishes_told p name image old new OutFault same stored told =
@@ -56,10 +59,10 @@ leaves_finished names p old new mid (Usage word) small accepted later f = absurd
 leaves_finished names p old new mid (ReadFault file) small accepted later f = absurd f
 
 -- a command that is refused, and whose refusal was told
-pub leaves_refused : (names : List (List ℕ)) (fault : Fault) (old new : Outside) (status : Status) → NamesInput fault → IfSome old.files (λ files. IsRefused files names fault) → new.files ≡ old.files → TellsRefusal fault old.written new.written old.out_faults new.out_faults status → AnswerLeaves names old new status
+pub leaves_refused : (names : List (List ℕ)) (fault : Fault) (old new : Outside) (status : Status) → IsFaultOfCompile fault → IfSome old.files (λ files. IsRefused files names fault) → new.files ≡ old.files → TellsRefusal fault old.written new.written old.out_faults new.out_faults status → AnswerLeaves names old new status
 leaves_refused names fault old new Done named refused same told = absurd told
 leaves_refused names fault old new (Refused f) named refused same told =
-    (subst NamesInput (sym told.0) named, subst (λ x. IfSome old.files (λ files. IsRefused files names x)) (sym told.0) refused, same, subst (λ x. IsPut (refusal_line x) old.written new.written ⊎ FailsToPut (refusal_line x) old.written new.written old.out_faults new.out_faults) (sym told.0) told.1)
+    (subst IsFaultOfCompile (sym told.0) named, subst (λ x. IfSome old.files (λ files. IsRefused files names x)) (sym told.0) refused, same, subst (λ x. IsPut (refusal_line x) old.written new.written ⊎ FailsToPut (refusal_line x) old.written new.written old.out_faults new.out_faults) (sym told.0) told.1)
 leaves_refused names fault old new (Usage word) named refused same told = absurd told
 leaves_refused names fault old new (ReadFault file) named refused same told = absurd told
 leaves_refused names fault old new WriteFault named refused same told = absurd told
@@ -95,3 +98,9 @@ compiled one names image (Some before) new stored =
       file = content_of_bound before (name_of names 5) (image_bytes image);
       agrees = rw stored.2 (agreement one stored.0 stored.1.program.program);
     })
+
+-- a compilation that is done
+pub compiled_command : OneInstance → (words names : List (List ℕ)) (old new : Outside) (status : Status) → status ≡ Done → IsCompile words names → AnswerLeaves (drop 1 words) old new status → IsCompiledTold names old.files new.files
+compiled_command one words names old new status done command leaves =
+    let stored : AnswerLeaves (drop 1 words) old new Done = subst (AnswerLeaves (drop 1 words) old new) done leaves in
+    subst (λ ns. IsCompiledTold ns old.files new.files) (names_are words names command) (compiled one (drop 1 words) stored.0 old.files new.files stored.1)

@@ -5,14 +5,16 @@ use Rattle.std.proofs.lemmas.Bool.{cases_lt}
 use Rattle.std.proofs.Math.Nat.{eq-or-lt_of_le}
 use Rattle.std.proofs.lemmas.List.{take-take, take-append-drop}
 use Rattle.qc_core.specs.declared.answer.Fault.{Fault}
-use Rattle.qc_core.specs.declared.answer.Fault.TheVariants.{TooLong, NotYet}
+use Rattle.qc_core.specs.declared.answer.Fault.TheVariants.{TooLong, BadByte, Syntax, TooDeep, Names, Join, NotYet}
 use Rattle.qc_core.specs.declared.answer.Status.{Status}
 use Rattle.qc_core.specs.declared.answer.Status.TheVariants.{Done, Refused, Usage, ReadFault, WriteFault, OutFault, NoMemory}
 use Rattle.qc_core.specs.declared.constants.ConstantProgram.{ConstantProgram}
-use Rattle.qc_core.specs.Answer.{Outside, AcceptedBefore, IsAccepted, IsAcceptedFile, IsRefusalStatus, IsRefused, AnswerLeaves, Stores, file_of, input_of}
-use Rattle.qc_core.specs.Command.{BeginsCommand, IsCommand, IsUsage}
+use Rattle.qc_core.specs.Answer.{Outside, AcceptedBefore, IsAccepted, IsAcceptedFile, IsRefusalStatus, IsRefused, IsRefusedBy, AnswerLeaves, CheckLeaves, Stores, file_of}
+use Rattle.qc_core.specs.Command.{BeginsCommand, IsCheck, IsCommand, IsCommandOf, IsCompile, IsUsage}
+use Rattle.qc_core.specs.Texts.{IsCheckRefused}
+use Rattle.qc_core.proofs.UsageLemmas.{not_both_commands}
 use Rattle.qc_core.specs.Faults.{Rose}
-use Rattle.qc_core.specs.Files.{Files, file_limit}
+use Rattle.qc_core.specs.Files.{Files, file_limit, input_of}
 use Rattle.qc_terms.specs.declared.image.Image.{Image}
 use Rattle.qc_core.proofs.ProgramTexts.{one_program}
 
@@ -27,10 +29,20 @@ all_good files names p file accepted from to =
 -- the file of a fault isn't good, and each file before it is
 is_bad : (files : Files) (names : List (List ℕ)) (fault : Fault) → IsRefused files names fault → IsAcceptedFile files names (file_of fault) → ⊥
 is_bad files names (TooLong file) refused good = omega (arith, good.0, refused.3)
+is_bad files names (BadByte file at) refused good = refused
+is_bad files names (Syntax file token) refused good = refused
+is_bad files names (TooDeep file token) refused good = refused
+is_bad files names (Names cause) refused good = refused
+is_bad files names (Join cause) refused good = refused
 is_bad files names (NotYet file) refused good = refused.4 good.1
 
 is_first : (files : Files) (names : List (List ℕ)) (fault : Fault) → IsRefused files names fault → (1 ≤ file_of fault) × (file_of fault ≤ 4) × AcceptedBefore files names (file_of fault)
 is_first files names (TooLong file) refused = (refused.0, refused.1, refused.2)
+is_first files names (BadByte file at) refused = absurd refused
+is_first files names (Syntax file token) refused = absurd refused
+is_first files names (TooDeep file token) refused = absurd refused
+is_first files names (Names cause) refused = absurd refused
+is_first files names (Join cause) refused = absurd refused
 is_first files names (NotYet file) refused = (refused.0, refused.1, refused.2)
 
 -- no file of an accepted program is bad
@@ -77,6 +89,21 @@ one_refusal files names (TooLong j) (NotYet k) refused refused_too =
     absurd (not_both files names j k (same_file files names (TooLong j) (NotYet k) refused refused_too) refused refused_too)
 one_refusal files names (NotYet j) (TooLong k) refused refused_too =
     absurd (not_both files names k j (same_file files names (TooLong k) (NotYet j) refused_too refused) refused_too refused)
+one_refusal files names (TooLong j) (BadByte k at) refused refused_too = absurd refused_too
+one_refusal files names (TooLong j) (Syntax k token) refused refused_too = absurd refused_too
+one_refusal files names (TooLong j) (TooDeep k token) refused refused_too = absurd refused_too
+one_refusal files names (TooLong j) (Names cause) refused refused_too = absurd refused_too
+one_refusal files names (TooLong j) (Join cause) refused refused_too = absurd refused_too
+one_refusal files names (NotYet j) (BadByte k at) refused refused_too = absurd refused_too
+one_refusal files names (NotYet j) (Syntax k token) refused refused_too = absurd refused_too
+one_refusal files names (NotYet j) (TooDeep k token) refused refused_too = absurd refused_too
+one_refusal files names (NotYet j) (Names cause) refused refused_too = absurd refused_too
+one_refusal files names (NotYet j) (Join cause) refused refused_too = absurd refused_too
+one_refusal files names (BadByte k at) b refused refused_too = absurd refused
+one_refusal files names (Syntax k token) b refused refused_too = absurd refused
+one_refusal files names (TooDeep k token) b refused refused_too = absurd refused
+one_refusal files names (Names cause) b refused refused_too = absurd refused
+one_refusal files names (Join cause) b refused refused_too = absurd refused
 one_refusal files names (NotYet j) (NotYet k) refused refused_too =
     ap (λ file. NotYet file) (same_file files names (NotYet j) (NotYet k) refused refused_too)
 
@@ -144,8 +171,25 @@ refused_leaves names files fault old new OutFault told refused leaves =
 refused_leaves names files fault old new NoMemory told refused leaves = tt
 
 -- the files of a command are all words after the first
-pub names_are : (words names : List (List ℕ)) → IsCommand words names → drop 1 words ≡ names
+pub names_are : {name : List ℕ} {count : ℕ} (words names : List (List ℕ)) → IsCommandOf name count words names → drop 1 words ≡ names
 names_are words names command = ap (drop 1) command.words_are
+
+-- words that are a usage are no command whose files are refused
+pub usage_is_not_refused : (words : List (List ℕ)) (word : ℕ) (files : Files) (fault : Fault) → IsUsage words word → IsRefusedBy words files fault → ⊥
+usage_is_not_refused words word files fault usage (inl (names, compile, refused)) = usage_is_no_command words names word usage (inr compile)
+usage_is_not_refused words word files fault usage (inr (names, check, refused)) = usage_is_no_command words names word usage (inl check)
+
+-- a check whose files are refused
+pub refused_check : ((names : List (List ℕ)) (files : Files) (fault : Fault) (old new : Outside) (status : Status) → old.files ≡ Some files → IsCheckRefused files names fault → CheckLeaves names old new status → IsRefusalStatus fault old.shelf_faults new.shelf_faults status) → (words : List (List ℕ)) (files : Files) (fault : Fault) (old new : Outside) (status : Status) → IsCheck words (drop 1 words) → old.files ≡ Some files → IsRefusedBy words files fault → CheckLeaves (drop 1 words) old new status → IsRefusalStatus fault old.shelf_faults new.shelf_faults status
+refused_check law words files fault old new status is told (inl (names, compile, refused)) leaves = absurd (not_both_commands words (drop 1 words) names is compile)
+refused_check law words files fault old new status is told (inr (names, check, refused)) leaves =
+    law names files fault old new status told refused (subst (λ ns. CheckLeaves ns old new status) (names_are words names check) leaves)
+
+-- a compilation whose files are refused
+pub refused_compile : (words : List (List ℕ)) (files : Files) (fault : Fault) (old new : Outside) (status : Status) → IsCompile words (drop 1 words) → old.files ≡ Some files → IsRefusedBy words files fault → AnswerLeaves (drop 1 words) old new status → IsRefusalStatus fault old.shelf_faults new.shelf_faults status
+refused_compile words files fault old new status is told (inl (names, compile, refused)) leaves =
+    refused_leaves names files fault old new status told refused (subst (λ ns. AnswerLeaves ns old new status) (names_are words names compile) leaves)
+refused_compile words files fault old new status is told (inr (names, check, refused)) leaves = absurd (not_both_commands words names (drop 1 words) check is)
 
 -- a file before which none is refused is good, unless it is refused
 good_unless_refused : (files : Files) (names : List (List ℕ)) (file : ℕ) → ((fault : Fault) → IsRefused files names fault → ⊥) → 1 ≤ file → file ≤ 4 →

@@ -1,6 +1,8 @@
 pub mod Agreement
+pub mod Checks
 pub mod Codes
 pub mod Decodings
+pub mod Described
 pub mod Emitted
 pub mod Endings
 pub mod Exclusions
@@ -18,5 +20,6 @@ pub mod Seven
 pub mod Stages
 pub mod Steps
 pub mod Tin32Valid
+pub mod TextAnswers
 pub mod Tokens
 pub mod UsageLemmas

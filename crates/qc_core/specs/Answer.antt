@@ -1,23 +1,26 @@
 -- The answers of the program: which one the words and the files ask for, and what each leaves.
-use Rattle.std.specs.Prelude.{ℕ, ◌≡◌, ◌<◌, ◌≤◌, ◌-◌, ◌⊎◌, List, [], ◌∷◌, ◌++◌, length, codes, Option, None, Some}
+use Rattle.std.specs.Prelude.{ℕ, ◌≡◌, ◌<◌, ◌≤◌, ◌⊎◌, List, [], ◌∷◌, ◌++◌, length, codes, Option, None, Some}
 use Rattle.std.specs.Prelude.{IfSome}
 use Rattle.std.specs.Option.{option_map}
-use Rattle.std.specs.List.{slice_index_or}
-use Rattle.std.specs.Fmt.{decimal}
 use Rattle.std.specs.FinMap.{insert}
 use Rattle.qc_terms.specs.declared.image.Image.{Image}
+use Rattle.qc_descr.specs.declared.description.Description.{Description}
+use Rattle.qc_descr.specs.Valid.{IsValid}
+use Rattle.qc_widths.specs.declared.machine.Machine.{Machine}
 use Rattle.qc_core.specs.declared.constants.ConstantProgram.{ConstantProgram}
 use Rattle.qc_core.specs.declared.answer.Fault.{Fault}
-use Rattle.qc_core.specs.declared.answer.Fault.TheVariants.{TooLong, NotYet}
+use Rattle.qc_core.specs.declared.answer.Fault.TheVariants.{TooLong, BadByte, Syntax, TooDeep, Names, Join, NotYet}
 use Rattle.qc_core.specs.declared.answer.Status.{Status}
 use Rattle.qc_core.specs.declared.answer.Status.TheVariants.{Done, Refused, Usage, ReadFault, WriteFault, OutFault}
 use Rattle.qc_core.specs.declared.answer.Status.TheVariants.{NoMemory}
 use Rattle.qc_core.specs.Code.{image_of}
-use Rattle.qc_core.specs.Command.{IsCommand, IsUsage}
+use Rattle.qc_core.specs.Command.{IsCheck, IsCompile, IsUsage}
 use Rattle.qc_core.specs.ConstantProgram.{IsConstantProgram, IsTextOf}
 use Rattle.qc_core.specs.Faults.{Rose}
-use Rattle.qc_core.specs.Files.{Files, content_of, file_limit, OthersStayTold}
+use Rattle.qc_core.specs.Files.{Files, file_limit, input_of, name_of, OthersStayTold}
 use Rattle.qc_core.specs.ImageFile.{image_bytes}
+use Rattle.qc_core.specs.Lines.{checked_line, compiled_line, refusal_line}
+use Rattle.qc_core.specs.Texts.{IsCheckRefused, IsDescriptionOf, IsMachineOf}
 use Rattle.qc_core.specs.Tin32.{tin32}
 
 -- the text that stands for the machine
@@ -39,14 +42,6 @@ HasForm file bytes =
     ((file ≡ 1) × (bytes ≡ machine_text)) ⊎ ((file ≡ 2) × (bytes ≡ coding_text))
     ⊎ ((file ≡ 3) × (bytes ≡ tables_text)) ⊎ ((file ≡ 4) × ((p : ConstantProgram) × IsTextOf bytes p))
 
--- the name of the file of this number, counted from 1
-abbrev pub name_of : List (List ℕ) → ℕ → List ℕ
-name_of names file = slice_index_or names (file - 1) []
-
--- the content of the file of this number
-abbrev pub input_of : Files → List (List ℕ) → ℕ → List ℕ
-input_of files names file = content_of files (name_of names file)
-
 -- the file of this number is short enough, and has its form
 abbrev pub IsAcceptedFile : Files → List (List ℕ) → ℕ → Type 0
 IsAcceptedFile files names file =
@@ -56,39 +51,45 @@ IsAcceptedFile files names file =
 abbrev pub AcceptedBefore : Files → List (List ℕ) → ℕ → Type 0
 AcceptedBefore files names file = (k : ℕ) → 1 ≤ k → k < file → IsAcceptedFile files names k
 
--- A fault of the first file that is refused: it is too long, or it hasn't its form.
+-- A fault of the first file that compile refuses: it is too long, or it hasn't its form.
 abbrev pub IsRefused : Files → List (List ℕ) → Fault → Type 0
 IsRefused files names (TooLong file) =
     (1 ≤ file) × (file ≤ 4) × AcceptedBefore files names file × (file_limit < length (input_of files names file))
 IsRefused files names (NotYet file) =
     (1 ≤ file) × (file ≤ 4) × AcceptedBefore files names file × (length (input_of files names file) ≤ file_limit)
     × (HasForm file (input_of files names file) → ⊥)
+IsRefused files names _ = ⊥
 
--- the number of the file that a fault names
+-- the number of the file that a fault is of
 abbrev pub file_of : Fault → ℕ
 file_of (TooLong file) = file
+file_of (BadByte file at) = file
+file_of (Syntax file token) = file
+file_of (TooDeep file token) = file
+file_of (Names fault) = 1
+file_of (Join fault) = 2
 file_of (NotYet file) = file
 
--- the fault names one of the files that are read
-abbrev pub NamesInput : Fault → Type 0
-NamesInput fault = (1 ≤ file_of fault) × (file_of fault ≤ 4)
+-- the faults of compile, each of one of the four files that are read
+abbrev pub IsFaultOfCompile : Fault → Type 0
+IsFaultOfCompile (TooLong file) = (1 ≤ file) × (file ≤ 4)
+IsFaultOfCompile (NotYet file) = (1 ≤ file) × (file ≤ 4)
+IsFaultOfCompile _ = ⊥
+
+-- the faults of the file of this number where it is a text of a description
+abbrev pub IsFaultOfText : ℕ → Fault → Type 0
+IsFaultOfText file (NotYet form) = ⊥
+IsFaultOfText file fault = file_of fault ≡ file
+
+-- the faults of check, each of one of the two texts
+abbrev pub IsFaultOfCheck : Fault → Type 0
+IsFaultOfCheck fault = IsFaultOfText 1 fault ⊎ IsFaultOfText 2 fault
 
 -- no file is refused, and the program is this one
 pub record IsAccepted (files : Files) (names : List (List ℕ)) (p : ConstantProgram) : Type 0 where
   pub good : AcceptedBefore files names 4
   pub short : length (input_of files names 4) ≤ file_limit
   pub program : IsTextOf (input_of files names 4) p
-
--- the lines that are put
-abbrev pub compiled_line : Image → List ℕ
-compiled_line image =
-    codes "compiled " ++ (decimal (length image.code) ++ (codes " bytes of code, "
-    ++ (decimal (length image.initial) ++ (codes " bytes of data" ++ 10 ∷ []))))
-
--- the line of a refusal names the fault and the file
-abbrev pub refusal_line : Fault → List ℕ
-refusal_line (TooLong file) = codes "refused: TooLong " ++ decimal file ++ 10 ∷ []
-refusal_line (NotYet form) = codes "refused: NotYet " ++ decimal form ++ 10 ∷ []
 
 -- the files that are told and the count of faults of the shelf, and the bytes that are told and the count of faults
 -- of the output
@@ -120,12 +121,12 @@ Stores names image (Some files) new =
     (p : ConstantProgram) × IsAccepted files names p × (image ≡ image_of tin32 p)
     × (new ≡ Some (insert files (name_of names 5) (image_bytes image)))
 
--- what an answer says of the command's files, and what it leaves, by cases on the status
+-- what an answer to compile says of the command's files, and what it leaves, by cases on the status
 abbrev pub AnswerLeaves : List (List ℕ) → Outside → Outside → Status → Type 0
 AnswerLeaves names old new Done =
     (image : Image) × Stores names image old.files new.files × IsPut (compiled_line image) old.written new.written
 AnswerLeaves names old new (Refused fault) =
-    NamesInput fault × IfSome old.files (λ files. IsRefused files names fault) × (new.files ≡ old.files)
+    IsFaultOfCompile fault × IfSome old.files (λ files. IsRefused files names fault) × (new.files ≡ old.files)
     × (IsPut (refusal_line fault) old.written new.written
     ⊎ FailsToPut (refusal_line fault) old.written new.written old.out_faults new.out_faults)
 AnswerLeaves names old new (Usage word) = ⊥
@@ -143,6 +144,28 @@ AnswerLeaves names old new OutFault =
 AnswerLeaves names old new NoMemory =
     ((new.files ≡ old.files) ⊎ ((image : Image) × Stores names image old.files new.files)) × (new.written ≡ old.written)
 
+-- The same for check, which changes no file. A description that is told is valid, also where the files aren't told. The
+-- second file is read once the first is a machine.
+abbrev pub CheckLeaves : List (List ℕ) → Outside → Outside → Status → Type 0
+CheckLeaves names old new Done =
+    (d : Description) × IsValid d × IfSome old.files (λ files. IsDescriptionOf files names d)
+    × (new.files ≡ old.files) × IsPut (checked_line d) old.written new.written
+CheckLeaves names old new (Refused fault) =
+    IsFaultOfCheck fault × IfSome old.files (λ files. IsCheckRefused files names fault) × (new.files ≡ old.files)
+    × (IsPut (refusal_line fault) old.written new.written
+    ⊎ FailsToPut (refusal_line fault) old.written new.written old.out_faults new.out_faults)
+CheckLeaves names old new (Usage word) = ⊥
+CheckLeaves names old new (ReadFault file) =
+    Rose old.shelf_faults new.shelf_faults × (1 ≤ file) × (file ≤ 2)
+    × IfSome old.files (λ files. file ≡ 2 → (machine : Machine) × IsMachineOf files names machine)
+    × (new.files ≡ old.files) × (new.written ≡ old.written)
+CheckLeaves names old new WriteFault = ⊥
+CheckLeaves names old new OutFault =
+    (d : Description) × IsValid d × IfSome old.files (λ files. IsDescriptionOf files names d)
+    × (new.files ≡ old.files)
+    × FailsToPut (checked_line d) old.written new.written old.out_faults new.out_faults
+CheckLeaves names old new NoMemory = (new.files ≡ old.files) × (new.written ≡ old.written)
+
 -- No fault of the shelf was counted, unless the status tells one.
 abbrev pub KeepsShelfFaults : Status → ℕ → ℕ → Type 0
 KeepsShelfFaults (ReadFault file) before now = Unit {0}
@@ -159,7 +182,14 @@ KeepsOutFaults _ before now = now ≡ before
 abbrev pub IsAnswer : List (List ℕ) → Outside → Outside → Status → Type 0
 IsAnswer words old new status =
     ((word : ℕ) × (status ≡ Usage word) × IsUsage words word × (new.files ≡ old.files) × (new.written ≡ old.written))
-    ⊎ ((names : List (List ℕ)) × IsCommand words names × AnswerLeaves names old new status)
+    ⊎ ((names : List (List ℕ)) × IsCompile words names × AnswerLeaves names old new status)
+    ⊎ ((names : List (List ℕ)) × IsCheck words names × CheckLeaves names old new status)
+
+-- the files of the command are refused for this fault
+abbrev pub IsRefusedBy : List (List ℕ) → Files → Fault → Type 0
+IsRefusedBy words files fault =
+    ((names : List (List ℕ)) × IsCompile words names × IsRefused files names fault)
+    ⊎ ((names : List (List ℕ)) × IsCheck words names × IsCheckRefused files names fault)
 
 -- What the status is where the files are refused for this fault: that refusal, or want of memory, or the failure of the
 -- read of a file that is not after the fault's, while the shelf's count of faults rose.

@@ -5,8 +5,8 @@ use Rattle.qc_core.specs.declared.constants.ConstantProgram.{ConstantProgram}
 use Rattle.qc_descr.specs.Loading.{FitsMachine}
 use Rattle.qc_descr.specs.Valid.{IsValid}
 use Rattle.qc_core.specs.Agreement.{Agrees}
-use Rattle.qc_core.specs.Answer.{IsAccepted, name_of}
-use Rattle.qc_core.specs.Files.{Files, content_of}
+use Rattle.qc_core.specs.Answer.{IsAccepted}
+use Rattle.qc_core.specs.Files.{Files, content_of, name_of}
 use Rattle.qc_core.specs.ImageFile.{image_bytes}
 use Rattle.qc_core.specs.Tin32.{tin32}
 

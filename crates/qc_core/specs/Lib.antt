@@ -9,10 +9,12 @@ pub mod Faults
 pub mod Files
 pub mod Headline
 pub mod ImageFile
+pub mod Lines
 pub mod MemoryFiles
 pub mod MemoryOut
 pub mod Numeral
 pub mod Stages
+pub mod Texts
 pub mod Tin32
 pub use Rattle.qc_descr.specs.Coding
 pub use Rattle.qc_descr.specs.Description

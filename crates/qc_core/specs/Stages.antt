@@ -2,40 +2,73 @@
 use Rattle.std.specs.Prelude.{ℕ, ◌≡◌, ◌<◌, ◌≤◌, ◌⊎◌, List, length, Option, IfSome}
 use Rattle.std.specs.Option.{option_map}
 use Rattle.std.specs.FinMap.{insert}
-use Rattle.qc_terms.specs.declared.image.Image.{Image}
+use Rattle.qc_text.specs.declared.answers.ReadTextFault.{ReadTextFault}
+use Rattle.qc_text.specs.declared.answers.ReadTextFault.TheVariants as text
+use Rattle.qc_widths.specs.declared.machine.Machine.{Machine}
 use Rattle.qc_core.specs.declared.constants.ConstantProgram.{ConstantProgram}
 use Rattle.qc_core.specs.declared.answer.Fault.{Fault}
-use Rattle.qc_core.specs.declared.answer.Fault.TheVariants.{TooLong, NotYet}
+use Rattle.qc_core.specs.declared.answer.Fault.TheVariants.{TooLong, BadByte, Syntax, TooDeep, NotYet}
 use Rattle.qc_core.specs.declared.answer.Status.{Status}
 use Rattle.qc_core.specs.declared.answer.Status.TheVariants.{Done, Refused, Usage, ReadFault, WriteFault, OutFault}
 use Rattle.qc_core.specs.declared.answer.Status.TheVariants.{NoMemory}
-use Rattle.qc_core.specs.Answer.{FailsToPut, AcceptedBefore, HasForm, IsPut, IsRefused, NamesInput, Outside}
-use Rattle.qc_core.specs.Answer.{compiled_line, refusal_line}
+use Rattle.qc_core.specs.Answer.{FailsToPut, AcceptedBefore, HasForm, IsFaultOfCheck, IsFaultOfCompile, IsFaultOfText}
+use Rattle.qc_core.specs.Answer.{IsPut, IsRefused, Outside}
 use Rattle.qc_core.specs.Code.{image_of}
 use Rattle.qc_core.specs.Faults.{Rose}
 use Rattle.qc_core.specs.Files.{Files, content_of, file_limit, OthersStayTold}
 use Rattle.qc_core.specs.ImageFile.{image_bytes}
+use Rattle.qc_core.specs.Lines.{compiled_line, refusal_line}
+use Rattle.qc_core.specs.Texts.{IsCheckRefused, IsFileFault, IsMachineOf}
 use Rattle.qc_core.specs.Tin32.{tin32}
 
--- How the reading of one file, of this number and name, stops: it is too long, it hasn't its form, or it could not be
--- read. The counts are those of the shelf's faults before and after.
-abbrev pub StopsAt : ℕ → List ℕ → Option Files → ℕ → ℕ → Status → Type 0
-StopsAt file name told before now (Refused (TooLong k)) =
+-- How the reading of one file, of this number and name, stops: it is too long, or could not be read. The counts are
+-- those of the shelf's faults before and after.
+abbrev pub StopsToRead : ℕ → List ℕ → Option Files → ℕ → ℕ → Status → Type 0
+StopsToRead file name told before now (Refused (TooLong k)) =
     (k ≡ file) × IfSome told (λ files. file_limit < length (content_of files name))
+StopsToRead file name told before now (ReadFault k) = (k ≡ file) × Rose before now
+StopsToRead file name told before now NoMemory = Unit {0}
+StopsToRead file name told before now _ = ⊥
+
+-- the same where the file is to have its form
+abbrev pub StopsAt : ℕ → List ℕ → Option Files → ℕ → ℕ → Status → Type 0
 StopsAt file name told before now (Refused (NotYet k)) =
     (k ≡ file) × IfSome told (λ files. (length (content_of files name) ≤ file_limit)
     × (HasForm file (content_of files name) → ⊥))
-StopsAt file name told before now (ReadFault k) = (k ≡ file) × Rose before now
-StopsAt file name told before now NoMemory = Unit {0}
-StopsAt file name told before now Done = ⊥
-StopsAt file name told before now (Usage word) = ⊥
-StopsAt file name told before now WriteFault = ⊥
-StopsAt file name told before now OutFault = ⊥
+StopsAt file name told before now status = StopsToRead file name told before now status
+
+-- the same where the file is a text with faults like these
+abbrev pub StopsAtText : ℕ → (List ℕ → Fault → Type 0) → List ℕ → Option Files → ℕ → ℕ → Status → Type 0
+StopsAtText file IsFault name told before now (Refused fault) =
+    IsFaultOfText file fault × IfSome told (λ files. IsFileFault file IsFault (content_of files name) fault)
+StopsAtText file IsFault name told before now status = StopsToRead file name told before now status
+
+-- the fault of the file of this number, which is no text of its grammar
+abbrev pub fault_of_text : ℕ → ReadTextFault → Fault
+fault_of_text file (text.BadByte at) = BadByte file at
+fault_of_text file (text.Syntax token) = Syntax file token
+fault_of_text file (text.TooDeep token) = TooDeep file token
+
+-- how it stops to find out what a text means that has faults like these
+abbrev pub StopsFor : (Fault → Type 0) → Status → Type 0
+StopsFor IsFault (Refused fault) = IsFault fault
+StopsFor IsFault NoMemory = Unit {0}
+StopsFor IsFault _ = ⊥
+
+-- how the reading of a description's two texts stops
+abbrev pub StopsDescribing : List (List ℕ) → Option Files → ℕ → ℕ → Status → Type 0
+StopsDescribing names told before now (Refused fault) =
+    IsFaultOfCheck fault × IfSome told (λ files. IsCheckRefused files names fault)
+StopsDescribing names told before now (ReadFault file) =
+    Rose before now × (1 ≤ file) × (file ≤ 2)
+    × IfSome told (λ files. file ≡ 2 → (machine : Machine) × IsMachineOf files names machine)
+StopsDescribing names told before now NoMemory = Unit {0}
+StopsDescribing names told before now _ = ⊥
 
 -- how the reading of a command's four files stops
 abbrev pub StopsReading : List (List ℕ) → Option Files → ℕ → ℕ → Status → Type 0
 StopsReading names told before now (Refused fault) =
-    NamesInput fault × IfSome told (λ files. IsRefused files names fault)
+    IsFaultOfCompile fault × IfSome told (λ files. IsRefused files names fault)
 StopsReading names told before now (ReadFault file) =
     Rose before now × (1 ≤ file) × (file ≤ 4) × IfSome told (λ files. AcceptedBefore files names file)
 StopsReading names told before now NoMemory = Unit {0}
@@ -44,15 +77,12 @@ StopsReading names told before now (Usage word) = ⊥
 StopsReading names told before now WriteFault = ⊥
 StopsReading names told before now OutFault = ⊥
 
--- what the line of an image that was compiled comes to
-abbrev pub TellsImage : Image → Option (List ℕ) → Option (List ℕ) → ℕ → ℕ → Status → Type 0
-TellsImage image old new before now Done = IsPut (compiled_line image) old new
-TellsImage image old new before now OutFault = FailsToPut (compiled_line image) old new before now
-TellsImage image old new before now NoMemory = new ≡ old
-TellsImage image old new before now (Refused fault) = ⊥
-TellsImage image old new before now (Usage word) = ⊥
-TellsImage image old new before now (ReadFault file) = ⊥
-TellsImage image old new before now WriteFault = ⊥
+-- what the putting of a line comes to that tells what was done
+abbrev pub TellsLine : List ℕ → Option (List ℕ) → Option (List ℕ) → ℕ → ℕ → Status → Type 0
+TellsLine line old new before now Done = IsPut line old new
+TellsLine line old new before now OutFault = FailsToPut line old new before now
+TellsLine line old new before now NoMemory = new ≡ old
+TellsLine line old new before now _ = ⊥
 
 -- what the line of a refusal comes to
 abbrev pub TellsRefusal : Fault → Option (List ℕ) → Option (List ℕ) → ℕ → ℕ → Status → Type 0

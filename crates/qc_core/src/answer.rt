@@ -1,9 +1,22 @@
-/// Why a file is refused. The files of a command are counted from 1 in the order of its words, and the forms 1 to 4 are
-/// those that the files 1 to 4 are to have.
+use qc_join::JoinFault;
+use qc_widths::WidthFault;
+
+/// Why a file is refused. The files of a command are counted from 1 in the order of its words, and the tokens and bytes
+/// of a file from 0. The forms 1 to 4 are those that the files 1 to 4 of `compile` are to have.
 #[derive(Clone, Copy, Debug, PartialEq, Eq)]
 pub enum Fault {
     /// The file has more than 4,194,304 bytes.
     TooLong { file: usize },
+    /// The byte at `at` begins no token.
+    BadByte { file: usize, at: usize },
+    /// The first token with which no text of the file's grammar begins.
+    Syntax { file: usize, token: usize },
+    /// The bracket with which more than 200 would be open.
+    TooDeep { file: usize, token: usize },
+    /// Names or widths are wrong in the text of a machine, which is file 1.
+    Names { fault: WidthFault },
+    /// The text of a coding, which is file 2, makes no description of the machine.
+    Join { fault: JoinFault },
     /// The file hasn't the one form that is understood so far.
     NotYet { form: u32 },
 }
@@ -11,7 +24,7 @@ pub enum Fault {
 /// What a call of the program came to.
 #[derive(Clone, Copy, Debug, PartialEq, Eq)]
 pub enum Status {
-    /// The file that was asked for is written, and its line is put.
+    /// What was asked for is done: of `compile` the image is written, and of both commands the line is put.
     Done,
     /// A file is refused, and no file was written.
     Refused { fault: Fault },
@@ -21,7 +34,7 @@ pub enum Status {
     ReadFault { file: usize },
     /// The image could not be written, or not whole.
     WriteFault,
-    /// The image is written, and its line could not be put, or not whole.
+    /// The image is written or the description checked, and the line could not be put, or not whole.
     OutFault,
     /// Memory was wanting.
     NoMemory,

@@ -1,26 +1,28 @@
 //! The commands, and the one call that the program makes.
 ghost use Rattle.std.specs.Prelude.{◌≡◌, ◌≤◌, ℕ, List, Some, drop, string_bytes, IfOk};
 ghost use Rattle.qc_core.specs.declared.answer.Fault.{Fault as Refusal};
-ghost use Rattle.qc_core.specs.Answer.{IsAnswer, IsRefusalStatus, IsRefused, KeepsOutFaults, KeepsShelfFaults};
+ghost use Rattle.qc_core.specs.Answer.{IsAnswer, IsRefusalStatus, IsRefusedBy, KeepsOutFaults, KeepsShelfFaults};
 ghost use Rattle.qc_core.specs.Answer.{AnswerLeaves, outside_of};
-ghost use Rattle.qc_core.specs.Stages.{Finishes, TellsImage, TellsRefusal};
+ghost use Rattle.qc_core.specs.Stages.{Finishes};
 ghost use Rattle.qc_core.specs.Code.{image_of};
-ghost use Rattle.qc_core.specs.Command.{texts_of, IsCommand, IsUsage};
+ghost use Rattle.qc_core.specs.Command.{texts_of, IsCompile, IsUsage};
 ghost use Rattle.qc_core.specs.ConstantProgram.{IsConstantProgram};
 ghost use Rattle.qc_core.specs.Files.{Files};
 ghost use Rattle.qc_core.specs.Headline.{IsCompiledTold};
 ghost use Rattle.qc_core.specs.ImageFile.{image_bytes};
 ghost use Rattle.qc_core.specs.Tin32 as spec;
 
-use crate::answer::{Fault, Status};
+use crate::answer::Status;
+use crate::checking::check_command;
 use crate::code::compile;
 use crate::constants::ConstantProgram;
 use crate::image_file::write_image;
 use crate::inputs::{file_word, read_inputs};
-use crate::lines::{compiled_line, refusal_line};
+use crate::laws::refused_checks;
 use crate::machines::tin32;
 use crate::outside::{Out, Shelf, StoreEnd};
-use crate::words::wrong_word;
+use crate::telling::{tell_image, tell_refusal};
+use crate::words::{Command, command_in};
 use qc_descr::one_instance;
 use qc_terms::Image;
 use qc_text::NoMemory;
@@ -39,41 +41,6 @@ fn image_file(alloc: Global, program: &ConstantProgram) -> Result<(Image, Vec<u8
     let image = compile(alloc, &descr, program)?;
     let file = write_image(alloc, &image)?;
     Ok((image, file))
-}
-
-/// Puts the line of an image that was compiled.
-fn tell_image<O: Out>(alloc: Global, out: &mut O, image: &Image) -> Status
-    ensures told { TellsImage image.now
-        (O.written out.old) (O.written out.new) (O.faults out.old) (O.faults out.new) result }
-    ensures kept { KeepsOutFaults result (O.faults out.old) (O.faults out.new) }
-    ensures later { O.faults out.old ≤ O.faults out.new }
-{
-    let line = match compiled_line(alloc, image) {
-        Ok(line) => line,
-        Err(_) => return Status::NoMemory,
-    };
-    match out.put(alloc, line.as_bytes()) {
-        Ok(()) => Status::Done,
-        Err(StoreEnd::Failed) => Status::OutFault,
-        Err(StoreEnd::NoMemory) => Status::NoMemory,
-    }
-}
-
-/// Puts the line of a refusal. Where this fails the refusal stands.
-fn tell_refusal<O: Out>(alloc: Global, out: &mut O, fault: Fault) -> Status
-    ensures told { TellsRefusal fault
-        (O.written out.old) (O.written out.new) (O.faults out.old) (O.faults out.new) result }
-    ensures kept { KeepsOutFaults result (O.faults out.old) (O.faults out.new) }
-    ensures later { O.faults out.old ≤ O.faults out.new }
-{
-    let line = match refusal_line(alloc, fault) {
-        Ok(line) => line,
-        Err(_) => return Status::NoMemory,
-    };
-    match out.put(alloc, line.as_bytes()) {
-        Ok(()) | Err(StoreEnd::Failed) => Status::Refused { fault },
-        Err(StoreEnd::NoMemory) => Status::NoMemory,
-    }
 }
 
 /// Writes the image of a program, and puts its line.
@@ -112,7 +79,7 @@ fn compile_command<S: Shelf, O: Out>(
     shelf: &mut S,
     out: &mut O,
 ) -> Status
-    requires { IsCommand (texts_of words.now.items) (drop 1 (texts_of words.now.items)) }
+    requires { IsCompile (texts_of words.now.items) (drop 1 (texts_of words.now.items)) }
     ensures shelf_kept { KeepsShelfFaults result (S.faults shelf.old) (S.faults shelf.new) }
     ensures shelf_later { S.faults shelf.old ≤ S.faults shelf.new }
     ensures out_kept { KeepsOutFaults result (O.faults out.old) (O.faults out.new) }
@@ -149,17 +116,19 @@ pub fn quick<S: Shelf, O: Out>(
     // Words that are no command are answered by the first wrong one.
     ensures usage { (word : ℕ) → IsUsage (texts_of words.now.items) word → result ≡ Status.Usage word }
     // Files that are refused are answered by their fault, unless memory is wanting or a read fails before that.
-    ensures refused { (names : List (List ℕ)) (files : Files) (fault : Refusal) →
-        IsCommand (texts_of words.now.items) names → S.files shelf.old ≡ Some files → IsRefused files names fault →
+    ensures refused { (files : Files) (fault : Refusal) →
+        S.files shelf.old ≡ Some files → IsRefusedBy (texts_of words.now.items) files fault →
         IsRefusalStatus fault (S.faults shelf.old) (S.faults shelf.new) result }
     // On every input the image that was written shows, run on the machine, what the program shows.
-    ensures compiled { result ≡ Status.Done → (names : List (List ℕ)) × IsCommand (texts_of words.now.items) names
-        × IsCompiledTold names (S.files shelf.old) (S.files shelf.new) }
+    ensures compiled { result ≡ Status.Done → (names : List (List ℕ)) → IsCompile (texts_of words.now.items) names →
+        IsCompiledTold names (S.files shelf.old) (S.files shelf.new) }
 {
     one_instance();
-    match wrong_word(words) {
-        Some(word) => Status::Usage { word },
-        None => compile_command(alloc, words, shelf, out),
+    refused_checks();
+    match command_in(words) {
+        Err(word) => Status::Usage { word },
+        Ok(Command::Check) => check_command(alloc, words, shelf, out),
+        Ok(Command::Compile) => compile_command(alloc, words, shelf, out),
     }
 }
 

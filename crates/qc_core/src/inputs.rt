@@ -1,11 +1,11 @@
 //! The files that a command reads, in the order of its words. Each is tested before the next is read.
 ghost use Rattle.std.specs.Prelude.{◌≡◌, ◌≤◌, ◌<◌, ◌↔◌, List, ℕ, length, drop, string_bytes, IfOk, IfErr, IfSome};
 ghost use Rattle.std.specs.Prelude.{IsTrue, MatchResult, OnOk};
-ghost use Rattle.qc_core.specs.Answer.{HasForm, AcceptedBefore, IsAccepted, KeepsShelfFaults, name_of};
-ghost use Rattle.qc_core.specs.Stages.{StopsAt, StopsReading};
-ghost use Rattle.qc_core.specs.Command.{texts_of, IsCommand};
+ghost use Rattle.qc_core.specs.Answer.{HasForm, AcceptedBefore, IsAccepted, KeepsShelfFaults};
+ghost use Rattle.qc_core.specs.Stages.{StopsAt, StopsReading, StopsToRead};
+ghost use Rattle.qc_core.specs.Command.{texts_of, IsCompile};
 ghost use Rattle.qc_core.specs.ConstantProgram.{IsConstantProgram, IsTextOf};
-ghost use Rattle.qc_core.specs.Files.{content_of, file_limit};
+ghost use Rattle.qc_core.specs.Files.{content_of, file_limit, name_of};
 
 use crate::answer::{Fault, Status};
 use crate::constants::ConstantProgram;
@@ -38,7 +38,8 @@ fn is_stand_in(bytes: &[u8], file: usize) -> bool
     bytes == stand_in(file)
 }
 
-fn read_input<S: Shelf>(
+/// The content of the file of this number.
+pub(crate) fn read_input<S: Shelf>(
     alloc: Global,
     shelf: &mut S,
     name: &String,
@@ -47,7 +48,7 @@ fn read_input<S: Shelf>(
     ensures content { IfOk result (λ bytes. IfSome (S.files shelf.old) (λ files.
         bytes.items ≡ content_of files (string_bytes name.now))) }
     ensures limit { IfOk result (λ bytes. length bytes.items ≤ file_limit) }
-    ensures stops { IfErr result (StopsAt file (string_bytes name.now)
+    ensures stops { IfErr result (StopsToRead file (string_bytes name.now)
         (S.files shelf.old) (S.faults shelf.old) (S.faults shelf.new)) }
     ensures files { S.files shelf.new ≡ S.files shelf.old }
     ensures kept { MatchResult result (λ _. S.faults shelf.new ≡ S.faults shelf.old)
@@ -122,9 +123,8 @@ fn read_constant_program<S: Shelf>(
 
 /// The word that names a file.
 pub(crate) fn file_word(words: &Vec<String>, file: usize) -> &String
-    requires command { IsCommand (texts_of words.now.items) (drop 1 (texts_of words.now.items)) }
     requires first { 1 ≤ file }
-    requires last { file ≤ 5 }
+    requires last { file ≤ length (drop 1 (texts_of words.now.items)) }
     ensures { string_bytes result.now ≡ name_of (drop 1 (texts_of words.now.items)) file }
 {
     &words[file]
@@ -132,7 +132,7 @@ pub(crate) fn file_word(words: &Vec<String>, file: usize) -> &String
 
 /// Reads the files that stand for the two texts of the description and for the tables.
 fn read_stand_ins<S: Shelf>(alloc: Global, words: &Vec<String>, shelf: &mut S) -> Result<(), Status>
-    requires { IsCommand (texts_of words.now.items) (drop 1 (texts_of words.now.items)) }
+    requires { IsCompile (texts_of words.now.items) (drop 1 (texts_of words.now.items)) }
     ensures good { OnOk result (IfSome (S.files shelf.old) (λ files.
         AcceptedBefore files (drop 1 (texts_of words.now.items)) 4)) }
     ensures stops { IfErr result (StopsReading (drop 1 (texts_of words.now.items))
@@ -157,7 +157,7 @@ pub(crate) fn read_inputs<S: Shelf>(
     words: &Vec<String>,
     shelf: &mut S,
 ) -> Result<ConstantProgram, Status>
-    requires { IsCommand (texts_of words.now.items) (drop 1 (texts_of words.now.items)) }
+    requires { IsCompile (texts_of words.now.items) (drop 1 (texts_of words.now.items)) }
     ensures program { IfOk result IsConstantProgram }
     ensures accepted { IfOk result (λ p. IfSome (S.files shelf.old) (λ files.
         IsAccepted files (drop 1 (texts_of words.now.items)) p)) }

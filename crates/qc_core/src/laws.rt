@@ -4,7 +4,7 @@ ghost use Rattle.qc_core.specs.declared.answer.Fault.{Fault};
 ghost use Rattle.qc_core.specs.declared.answer.Status.{Status};
 ghost use Rattle.qc_core.specs.declared.answer.Status.TheVariants.{Done, NoMemory};
 ghost use Rattle.qc_core.specs.declared.constants.ConstantProgram.{ConstantProgram};
-ghost use Rattle.qc_core.specs.Answer.{IsAccepted, IsRefused, AnswerLeaves, Outside};
+ghost use Rattle.qc_core.specs.Answer.{AnswerLeaves, CheckLeaves, IsAccepted, IsRefusalStatus, IsRefused, Outside};
 ghost use Rattle.qc_core.specs.Code.{image_of};
 ghost use Rattle.qc_descr.specs.Encoding.{DecodesInto, InstanceOf};
 ghost use Rattle.qc_core.specs.Command.{IsCommand, IsUsage};
@@ -13,6 +13,7 @@ ghost use Rattle.qc_core.specs.Example.{seven, seven_image, seven_shows, seven_t
 ghost use Rattle.qc_core.specs.Faults.{Rose};
 ghost use Rattle.qc_core.specs.Files.{Files};
 ghost use Rattle.qc_core.specs.ImageFile.{HasFile, image_bytes};
+ghost use Rattle.qc_core.specs.Texts.{IsCheckRefused, IsDescriptionOf};
 ghost use Rattle.qc_core.specs.Tin32.{tin32};
 ghost use Rattle.qc_terms.specs.declared.image.Image.{Image};
 ghost use Rattle.qc_descr.specs.declared.description.Description.{Description};
@@ -21,6 +22,7 @@ ghost use Rattle.qc_descr.specs.Step.{Progress, RunsTo, observation_of};
 ghost use Rattle.qc_descr.specs.Valid.{IsValid};
 
 use qc_descr::one_instance;
+use qc_text::{one_bad_byte, one_end, one_token_list};
 
 /// A text spells at most one program.
 pub fn one_program()
@@ -59,6 +61,58 @@ pub fn one_refusal()
     ensures { (files : Files) (names : List (List ℕ)) (a b : Fault) →
         IsRefused files names a → IsRefused files names b → a ≡ b }
 {}
+
+/// Two files make at most one description.
+pub fn one_description()
+    ensures { (files : Files) (names : List (List ℕ)) (d e : Description) →
+        IsDescriptionOf files names d → IsDescriptionOf files names e → d ≡ e }
+{
+    one_token_list();
+    one_bad_byte();
+    one_end();
+}
+
+/// Two files are refused as the texts of a description for at most one fault.
+pub fn one_check_refusal()
+    ensures { (files : Files) (names : List (List ℕ)) (a b : Fault) →
+        IsCheckRefused files names a → IsCheckRefused files names b → a ≡ b }
+{
+    one_token_list();
+    one_bad_byte();
+    one_end();
+}
+
+/// Files that make a description are not refused as its texts.
+pub fn checked_is_not_refused()
+    ensures { (files : Files) (names : List (List ℕ)) (d : Description) (fault : Fault) →
+        IsDescriptionOf files names d → IsCheckRefused files names fault → ⊥ }
+{
+    one_token_list();
+    one_bad_byte();
+    one_end();
+}
+
+/// A check of files that are refused for a fault tells that fault, unless memory is wanting or a read fails before that.
+pub fn refused_checks()
+    ensures { (names : List (List ℕ)) (files : Files) (fault : Fault) (old new : Outside) (status : Status) →
+        old.files ≡ Some files → IsCheckRefused files names fault → CheckLeaves names old new status →
+        IsRefusalStatus fault old.shelf_faults new.shelf_faults status }
+{
+    one_token_list();
+    one_bad_byte();
+    one_end();
+}
+
+/// A check of files that make a description is done or runs out of memory, where the files are told and no count of
+/// faults rose.
+pub fn faultless_checks()
+    ensures { (names : List (List ℕ)) (files : Files) (d : Description) (old new : Outside) (status : Status) →
+        old.files ≡ Some files → IsDescriptionOf files names d →
+        (Rose old.shelf_faults new.shelf_faults → ⊥) → (Rose old.out_faults new.out_faults → ⊥) →
+        CheckLeaves names old new status → (status ≡ Done) ⊎ (status ≡ NoMemory) }
+{
+    checked_is_not_refused();
+}
 
 /// Words that are a usage are no command.
 pub fn usage_is_no_command()

@@ -6,6 +6,10 @@
 
 mod bytes;
 mod decoder;
+mod instance_range;
+mod laws;
 mod operands;
 
 pub use decoder::Decoder;
+pub use instance_range::is_instance;
+pub use laws::{decoded_is_encoded, encoded_is_decoded};

@@ -53,7 +53,7 @@ pub fn operand_in_bytes(coding: &Coding, order: Order, operand: usize, bytes: &[
 }
 
 /// Whether an operand of this kind may have this value.
-fn is_in_range(descr: &Description, kind: OperandKind, operand: u64) -> bool
+pub(crate) fn is_in_range(descr: &Description, kind: OperandKind, operand: u64) -> bool
     ensures value { IsTrue result ↔ IsInRange descr.now kind operand }
     ensures narrow { IsNarrow kind }
 {

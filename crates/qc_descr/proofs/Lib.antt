@@ -1,7 +1,14 @@
 pub mod Apart
 pub mod Branch
+pub mod Covered
 pub mod Endings
+pub mod Faultless
+pub mod LaidOut
+pub mod Made
 pub mod Operands
+pub mod Overlapping
 pub mod Runs
 pub mod Search
 pub mod Uniqueness
+pub mod Standing
+pub mod Wholes

@@ -1,12 +1,17 @@
 pub mod Coding
+pub mod CodingFaults
 pub mod Description
 pub mod Encoding
 pub mod Example
 pub mod Law
+pub mod Layout
 pub mod Loading
 pub mod Machine
+pub mod Making
+pub mod Overlaps
 pub mod Parts
 pub mod Reach
+pub mod Standing
 pub mod Step
 pub mod Valid
 pub use Rattle.qc_words.specs.Operators

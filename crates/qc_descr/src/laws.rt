@@ -9,6 +9,8 @@ ghost use Rattle.qc_descr.specs.declared.description.Instruction.{Instruction};
 ghost use Rattle.qc_descr.specs.Coding.{is_piece, memory_bytes};
 ghost use Rattle.qc_descr.specs.Encoding.{IsCodedBy};
 ghost use Rattle.qc_descr.specs.Example.{branch};
+ghost use Rattle.qc_descr.specs.declared.sketch.Parts.{Parts};
+ghost use Rattle.qc_descr.specs.Making.{AreWholeParts, description_of, fault_of};
 ghost use Rattle.qc_descr.specs.Step.{OneInstance, Progress, RunsTo, Steps};
 ghost use Rattle.qc_descr.specs.Valid.{IsCovered, IsValid};
 
@@ -64,4 +66,9 @@ pub fn example_of_branch()
     ensures back { (d : Description) → 8 ≤ d.facts.word → IsCodedBy d branch 100 (92 ∷ []) (0xE5 ∷ []) }
     ensures too_far { (d : Description) (bytes : List ℕ) → IsCodedBy d branch 100 (132 ∷ []) bytes → ⊥ }
     ensures unaligned { (d : Description) (bytes : List ℕ) → IsCodedBy d branch 100 (109 ∷ []) bytes → ⊥ }
+{}
+
+/// The description of parts without a fault is valid.
+pub fn descriptions_are_valid()
+    ensures { (p : Parts) → AreWholeParts p → fault_of p ≡ None → IsValid (description_of p) }
 {}

@@ -6,15 +6,24 @@
 
 mod coding;
 mod coding_bytes;
+mod coding_faults;
 mod description;
+mod faults;
 mod laws;
+mod layout;
+mod making;
+mod overlaps;
 mod parts;
+mod sketch;
 
 pub use coding::{Bit, Coding, Reach};
 pub use coding_bytes::{byte_value, coding_size, memory_byte};
+pub use coding_faults::{operand_size, operand_sizes};
 pub use description::{Description, Instance, Instruction, OperandKind, Operands, Space};
+pub use faults::{DescrEnd, DescrFault, Part};
 pub use laws::{
-    example_of_branch, one_instance, one_outcome, one_run, pieces_stand, some_outcome, some_run,
-    step_tells_ending,
+    descriptions_are_valid, example_of_branch, one_instance, one_outcome, one_run, pieces_stand,
+    some_outcome, some_run, step_tells_ending,
 };
 pub use parts::{Given, Operation};
+pub use sketch::{Claim, Parts, Sketch};

@@ -8,6 +8,7 @@ use Rattle.std.proofs.lemmas.Grind.{common_steps}
 use Rattle.std.proofs.lemmas.List.{length-map, length-append}
 use Rattle.std.proofs.lemmas.List.Sums.{sum_by-append}
 use Rattle.qc_words.specs.declared.operator.Op.{Op}
+use Rattle.qc_names.specs.Tables.{is_there}
 use Rattle.qc_terms.specs.Typing.{is_event}
 use Rattle.qc_lrtl.specs.declared.syntax.Expr.{Expr}
 use Rattle.qc_lrtl.specs.declared.syntax.Guard.{Guard}
@@ -16,7 +17,6 @@ use Rattle.qc_lrtl.specs.declared.syntax.Simple.{Simple}
 use Rattle.qc_lrtl.specs.declared.syntax.Simple.TheVariants.{Pc, Out, Halt, Trap, Mem, Name, Cell, Use}
 use Rattle.qc_widths.specs.declared.facts.Local.{Local}
 use Rattle.qc_widths.specs.declared.facts.Target.{Target}
-use Rattle.qc_widths.specs.Numbers.{is_there}
 use Rattle.qc_widths.specs.Values.{Value}
 use Rattle.qc_widths.specs.Scopes.{Act, Bound, Signature, Meaning, Scope, Names, named, local_bound, bound_in, local_in, meaning_in, takes, operator_named, cell_named}
 use Rattle.qc_widths.specs.Expressions.{Expression, expression_of, value_of, target_of, bindings}

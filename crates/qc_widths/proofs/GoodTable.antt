@@ -6,6 +6,7 @@ use Rattle.std.proofs.Common.{refl, ap, sym, ◌∙◌, subst}
 use Rattle.std.proofs.lemmas.List.{length-map, map-append}
 use Rattle.std.proofs.lemmas.List.Elements.{All-from_recursion}
 use Rattle.std.proofs.lemmas.Slice.Eq.{bytes_eq-Decides}
+use Rattle.qc_names.specs.Tables.{is_there}
 use Rattle.qc_terms.specs.State.{Context}
 use Rattle.qc_descr.specs.declared.description.OperandKind.{OperandKind}
 use Rattle.qc_descr.specs.Law.Bits.{each_append}
@@ -15,7 +16,6 @@ use Rattle.qc_lrtl.specs.declared.syntax.Effect.{Effect}
 use Rattle.qc_lrtl.specs.declared.syntax.Param.{Param}
 use Rattle.qc_lrtl.specs.declared.syntax.Item.{Item}
 use Rattle.qc_lrtl.specs.declared.syntax.Item.TheVariants as fact
-use Rattle.qc_widths.specs.Numbers.{is_there}
 use Rattle.qc_widths.specs.Scopes.{Bound, argument, operand, function, Facts, Signature, Meaning, Names, named, local_bound}
 use Rattle.qc_widths.specs.Expressions.{faults_in}
 use Rattle.qc_widths.specs.Effects.{acts_of, effect_faults, effect_targets}

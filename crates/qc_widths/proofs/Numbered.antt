@@ -8,13 +8,14 @@ use Rattle.std.proofs.Math.Seq.{take-length}
 use Rattle.std.proofs.lemmas.Option.{slice_get-get_or, slice_get-map}
 use Rattle.std.proofs.lemmas.List.Concat.{flat_map-append}
 use Rattle.qc_text.specs.declared.cursor.Ident.{Ident}
+use Rattle.qc_names.specs.Tables.{number_at, entered}
 use Rattle.qc_lrtl.specs.declared.syntax.Item.{Item}
 use Rattle.qc_lrtl.specs.declared.syntax.Item.TheVariants as fact
 use Rattle.qc_widths.specs.Declarations.{function_item, function_items, function_name, place_of, place_of_function}
 use Rattle.qc_widths.specs.Scopes.{placed_from}
 use Rattle.qc_widths.specs.declared.functions.Functions.{Functions}
 use Rattle.qc_widths.specs.Functions.{IsTableOf}
-use Rattle.qc_widths.specs.Tables.{number_at, entered, IsIndexOf, AreNumbered, HasFirst}
+use Rattle.qc_widths.specs.Tables.{IsIndexOf, AreNumbered, HasFirst}
 use Rattle.qc_widths.proofs.Tables.{index-none, index-entered, placed-map}
 
 name_of_function_item : (item : Item) → flat_map function_name (function_item item) ≡ function_name item

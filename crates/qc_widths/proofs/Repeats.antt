@@ -9,16 +9,15 @@ use Rattle.std.proofs.lemmas.List.Folds.{list_any-append}
 use Rattle.std.proofs.lemmas.Slice.Eq.{bytes_eq-Decides}
 use Rattle.qc_words.specs.declared.operator.Op.{Op}
 use Rattle.qc_text.specs.declared.cursor.Ident.{Ident}
+use Rattle.qc_names.specs.Tables.{is_there, number_at, entered}
+use Rattle.qc_names.proofs.Tables.{either, number_at-append, bytes_eq-symm}
 use Rattle.qc_widths.specs.declared.faults.WidthFault.{WidthFault}
 use Rattle.qc_widths.specs.declared.faults.WidthFault.TheVariants.{TwiceNamed}
 use Rattle.qc_widths.specs.declared.repeated.Seen.{Seen}
 use Rattle.qc_widths.specs.Faults.{told_of_both, told}
-use Rattle.qc_widths.specs.Numbers.{is_there}
 use Rattle.qc_widths.specs.Scopes.{named, operators, second, operator_named}
 use Rattle.qc_widths.specs.Machine.{repeated_after}
 use Rattle.qc_widths.specs.Repeated.{repeat_of, noted, noted_all}
-use Rattle.qc_widths.specs.Tables.{number_at, entered}
-use Rattle.qc_widths.proofs.Tables.{either, number_at-append, bytes_eq-symm}
 use Rattle.qc_widths.proofs.Told.{both_assoc, told-append, both-none}
 
 pub noted_all-append : (start : List (List ℕ)) (seen : Seen) (names more : List Ident) →

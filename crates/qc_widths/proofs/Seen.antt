@@ -6,13 +6,14 @@ use Rattle.std.proofs.Math.Pow.{pow_mono}
 use Rattle.std.proofs.lemmas.Grind.{common_steps}
 use Rattle.qc_words.specs.declared.operator.Op.{Op}
 use Rattle.qc_text.specs.declared.number.Number.{Number}
+use Rattle.qc_names.specs.Tables.{is_there}
 use Rattle.qc_terms.specs.declared.term.Term.{Term}
 use Rattle.qc_terms.specs.declared.term.Term.TheVariants as term
 use Rattle.qc_terms.specs.Tree.{tree_of, nodes_of, tree_of-num, tree_of-reg, tree_of-imm, tree_of-input, tree_of-after, tree_of-mem, tree_of-un, tree_of-bin}
 use Rattle.qc_widths.specs.declared.faults.WidthFault.{WidthFault}
 use Rattle.qc_widths.specs.declared.value.Value.TheVariants.{Huge, Known}
 use Rattle.qc_widths.specs.Faults.{told, told_of_both}
-use Rattle.qc_widths.specs.Numbers.{is_empty, is_there, width_in, fit_faults, literal_faults, clash}
+use Rattle.qc_widths.specs.Numbers.{is_empty, width_in, fit_faults, literal_faults, clash}
 use Rattle.qc_widths.specs.Values as values
 use Rattle.qc_widths.specs.Evaluated.{seen, nodes_in}
 use Rattle.qc_widths.proofs.Told.{told-append}

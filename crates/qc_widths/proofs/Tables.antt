@@ -1,54 +1,18 @@
--- Symbol tables: what a map gives a name, and the first place of a name.
-use Rattle.std.specs.Prelude.{ℕ, suc, ◌≡◌, ◌+◌, ◌<◌, ◌≤◌, ◌^◌, Bool, true, false, cond, ◌||◌, nat_eq, List, [], ◌∷◌, ◌++◌, length, map, slice_get, Option, None, Some}
+-- Symbol tables: the first place of a name.
+use Rattle.std.specs.Prelude.{ℕ, suc, ◌≡◌, ◌+◌, ◌<◌, ◌≤◌, ◌^◌, Bool, true, false, cond, ◌||◌, List, [], ◌∷◌, ◌++◌, length, map, slice_get, Option, None, Some}
 use Rattle.std.specs.List.{list_any}
-use Rattle.std.specs.Map.{lookup}
 use Rattle.std.specs.Str.{bytes_eq}
-use Rattle.std.specs.Cmp.Lexicographic.{pointwise}
-use Rattle.std.specs.declared.vec.Vec.{Vec}
-use Rattle.std.proofs.Common.{refl, ap, sym, ◌∙◌, subst, arith, true≢false, if◌then◌else◌, length-append}
+use Rattle.std.proofs.Common.{refl, ap, sym, ◌∙◌, subst, arith, length-append}
 use Rattle.std.proofs.lemmas.List.{length-map, map-append}
-use Rattle.indexmap.specs.IndexMap.{insert_entry}
-use Rattle.std.proofs.lemmas.Cmp.{nat_list_eq_equiv}
 use Rattle.std.proofs.lemmas.Slice.Eq.{bytes_eq-Decides}
 use Rattle.std.proofs.lemmas.List.Elements.{All-nil, All-push, All-get_or}
 use Rattle.std.proofs.lemmas.Option.{get_or_from_slice_get}
-use Rattle.qc_widths.specs.Numbers.{is_there}
+use Rattle.qc_names.specs.Tables.{is_there, number_at, entered}
+use Rattle.qc_names.proofs.Tables.{either, number_at-append, bytes_eq-symm}
 use Rattle.qc_widths.specs.declared.facts.SpaceFacts.{SpaceFacts}
 use Rattle.qc_widths.specs.Scopes.{Facts, placed_from, space_named}
 use Rattle.qc_widths.specs.Declarations.{place_of}
-use Rattle.qc_widths.specs.Tables.{number_at, entered, first_place, IsIndexOf, HasTable}
-
--- the entries of a map, as a table is seen
-abbrev pub shown : {A : Type 0} → List (Vec ℕ A × ℕ) → List (List ℕ × ℕ)
-shown es = map (λ e. (e.0.items, e.1)) es
-
-pub number_at-shown : {A : Type 0} (es : List (Vec ℕ A × ℕ)) (name : List ℕ) →
-    lookup (λ k. pointwise nat_eq name k.items) es ≡ number_at (shown es) name
-number_at-shown [] name = refl
-number_at-shown (e ∷ es) name = ap (cond (bytes_eq name e.0.items) (Some e.1)) (number_at-shown es name)
-
-pub shown-append : {A : Type 0} (es fs : List (Vec ℕ A × ℕ)) → shown (es ++ fs) ≡ shown es ++ shown fs
-shown-append [] fs = refl
-shown-append (e ∷ es) fs = ap (λ xs. (e.0.items, e.1) ∷ xs) (shown-append es fs)
-
-pub bytes_eq-symm : (xs ys : List ℕ) → bytes_eq xs ys ≡ bytes_eq ys xs
-bytes_eq-symm xs ys = nat_list_eq_equiv.symm xs ys
-
--- the first of two, if it is there
-abbrev pub either : {A : Type 0} → Option A → Option A → Option A
-either None b = b
-either (Some a) b = Some a
-
-pub number_at-append : (es fs : List (List ℕ × ℕ)) (name : List ℕ) →
-    number_at (es ++ fs) name ≡ either (number_at es name) (number_at fs name)
-number_at-append [] fs name = refl
-number_at-append (e ∷ es) fs name = by (bytes_eq name e.0) (number_at-append es fs name)
-  where
-    by : (b : Bool) → number_at (es ++ fs) name ≡ either (number_at es name) (number_at fs name) →
-        cond b (Some e.1) (number_at (es ++ fs) name)
-        ≡ either (cond b (Some e.1) (number_at es name)) (number_at fs name)
-    by true rest = refl
-    by false rest = rest
+use Rattle.qc_widths.specs.Tables.{first_place, IsIndexOf, HasTable}
 
 pub placed-append : {A : Type 0} (at : ℕ) (f : A → List ℕ) (xs ys : List A) (name : List ℕ) →
     placed_from at f (xs ++ ys) name ≡ either (placed_from at f xs name) (placed_from (at + length xs) f ys name)
@@ -139,33 +103,6 @@ index-entered names es name place index e = record { places = λ other. by other
             right : (o : Option ℕ) → either o None ≡ o
             right None = refl
             right (Some n) = refl
-
--- the entries of a map after a name that it has not
-pub shown-inserted : {A : Type 0} (es : List (Vec ℕ A × ℕ)) (key : Vec ℕ A) (name : List ℕ) (number : ℕ) →
-    key.items ≡ name → is_there (number_at (shown es) name) ≡ false →
-    shown (insert_entry (λ a b. pointwise nat_eq a.items b.items) es key number) ≡ shown es ++ (name, number) ∷ []
-shown-inserted [] key name number is absent = ap (λ n. (n, number) ∷ []) is
-shown-inserted (e ∷ es) key name number is absent =
-    by (pointwise nat_eq key.items e.0.items) (ap (λ n. pointwise nat_eq n e.0.items) is) (shown-inserted es key
-    name number is) absent
-  where
-    by : (b : Bool) → b ≡ bytes_eq name e.0.items →
-        (is_there (number_at (shown es) name) ≡ false →
-        shown (insert_entry (λ a b. pointwise nat_eq a.items b.items) es key number) ≡ shown es
-        ++ (name, number) ∷ []) →
-        is_there (cond (bytes_eq name e.0.items) (Some e.1) (number_at (shown es) name)) ≡ false →
-        shown (if b then (e.0, number) ∷ es else e ∷ insert_entry (λ a b. pointwise nat_eq a.items b.items) es key
-        number)
-        ≡ shown (e ∷ es) ++ (name, number) ∷ []
-    by true same rest absent =
-        absurd (true≢false (ap (λ b. is_there (cond b (Some e.1) (number_at (shown es) name))) same ∙ absent))
-    by false other rest absent =
-        ap (λ xs. (e.0.items, e.1) ∷ xs)
-        (rest (ap (λ b. is_there (cond b (Some e.1) (number_at (shown es) name))) other ∙ absent))
-
-pub entered-new : (es : List (List ℕ × ℕ)) (name : List ℕ) (number : ℕ) →
-    is_there (number_at es name) ≡ false → entered es name number ≡ es ++ (name, number) ∷ []
-entered-new es name number absent = ap (λ b. cond b es (es ++ (name, number) ∷ [])) absent
 
 -- What is found has its place in the list.
 pub record StandsAt {A : Type 0} (xs : List A) (at place : ℕ) (x : A) : Type 0 where

@@ -10,6 +10,7 @@ use Rattle.std.proofs.lemmas.List.Elements.{recursion_from_All}
 use Rattle.std.proofs.lemmas.Slice.Eq.{bytes_eq-Decides}
 use Rattle.qc_words.specs.declared.operator.Op.{Op}
 use Rattle.qc_words.specs.declared.operator.Op.TheVariants as op
+use Rattle.qc_names.specs.Tables.{is_there}
 use Rattle.qc_terms.specs.State.{Context}
 use Rattle.qc_terms.specs.Tree.{tree_of, width_of, Binary, tree_of-bin}
 use Rattle.qc_terms.specs.Typing.{IsTyped, IsAccessWidth, TakesWidth}
@@ -32,7 +33,7 @@ use Rattle.qc_widths.specs.declared.faults.WidthFault.TheVariants.{UnknownName}
 use Rattle.qc_widths.specs.declared.facts.Local.{Local}
 use Rattle.qc_widths.specs.declared.facts.Local.TheVariants.{Plain as plain, Applied as applied}
 use Rattle.qc_widths.specs.declared.facts.Target.{Target}
-use Rattle.qc_widths.specs.Numbers.{is_there, access_faults, access_width}
+use Rattle.qc_widths.specs.Numbers.{access_faults, access_width}
 use Rattle.qc_widths.specs.Values.{Value, bits_of, mismatch, test}
 use Rattle.qc_widths.specs.Scopes.{Act, Bound, argument, operand, function, Signature, Meaning, Scope, Names, bound_in, local_in, meaning_in, takes, operator_named, cell_faults}
 use Rattle.qc_widths.specs.Expressions.{Expression, expression_of, value_of, faults_in, target_of, target_of_bound, bindings, argument_faults, plain_faults}

@@ -5,6 +5,7 @@ use Rattle.std.proofs.lemmas.Grind.{common_steps}
 use Rattle.qc_words.specs.declared.operator.Op.{Op}
 use Rattle.qc_words.specs.declared.operator.Op.TheVariants as op
 use Rattle.qc_words.specs.Operators.{Accepts, is_unary, result_width_of}
+use Rattle.qc_names.specs.Tables.{is_there}
 use Rattle.qc_terms.specs.declared.term.Term.TheVariants as term
 use Rattle.qc_terms.specs.State.{Context}
 use Rattle.qc_terms.specs.declared.term.Term.{Term}
@@ -14,7 +15,7 @@ use Rattle.qc_descr.specs.declared.description.OperandKind.{OperandKind}
 use Rattle.qc_descr.specs.Valid.{NamesOperands}
 use Rattle.qc_text.specs.declared.number.Number.{Number}
 use Rattle.qc_widths.specs.declared.faults.WidthFault.{WidthFault}
-use Rattle.qc_widths.specs.Numbers.{is_empty, is_there, width_in, width_faults, fit_faults, literal_faults, access_faults, access_width}
+use Rattle.qc_widths.specs.Numbers.{is_empty, width_in, width_faults, fit_faults, literal_faults, access_faults, access_width}
 use Rattle.qc_widths.specs.Values.{Value, bits_of, faulty, leaf, node, mismatch, excess, past_end, test, literal, input, after, load, extension, slice, unary, binary, width_of_operator}
 use Rattle.qc_widths.specs.Typed.{IsTypedValue, IsGood}
 

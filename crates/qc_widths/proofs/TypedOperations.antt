@@ -5,6 +5,7 @@ use Rattle.std.proofs.Common.{refl, ap, sym, ◌∙◌, subst, arith, inl, inr, 
 use Rattle.std.specs.Str.{bytes_eq}
 use Rattle.std.proofs.lemmas.List.Sums.{sum_by-append}
 use Rattle.std.proofs.lemmas.List.Elements.{All-from_recursion}
+use Rattle.qc_names.specs.Tables.{is_there}
 use Rattle.qc_terms.specs.State.{Context}
 use Rattle.qc_terms.specs.Tree.{width_of, tree_of-imm}
 use Rattle.qc_terms.specs.Typing.{IsTyped, IsTypedEffect, IsTypedRtl, HasOneEvent, is_event}
@@ -23,7 +24,7 @@ use Rattle.qc_widths.specs.declared.facts.SpaceFacts.{SpaceFacts}
 use Rattle.qc_widths.specs.declared.facts.Target.{Target}
 use Rattle.qc_widths.specs.declared.faults.WidthFault.{WidthFault}
 use Rattle.qc_widths.specs.declared.faults.WidthFault.TheVariants.{TwiceNamed}
-use Rattle.qc_widths.specs.Numbers.{is_there, width_in}
+use Rattle.qc_widths.specs.Numbers.{width_in}
 use Rattle.qc_widths.specs.Values.{bits_of, leaf}
 use Rattle.qc_widths.specs.Scopes.{Act, operand, Facts, Meaning, Scope, Names, named, local_bound, space_named, target_of_operand}
 use Rattle.qc_widths.specs.Effects.{effect_of, clashes_of_act, effect_faults, effect_events}

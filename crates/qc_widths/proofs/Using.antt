@@ -5,6 +5,7 @@ use Rattle.std.proofs.Common.{refl, ap, sym, subst, ◌∙◌, arith, get_or, eq
 use Rattle.std.proofs.lemmas.Bool.{cases_lt}
 use Rattle.std.proofs.lemmas.Grind.{common_steps}
 use Rattle.std.proofs.lemmas.List.{length-map}
+use Rattle.qc_names.specs.Tables.{is_there}
 use Rattle.qc_descr.specs.Law.Places.{slice_get-append_left, slice_get-append_right}
 use Rattle.qc_words.specs.declared.operator.Op.{Op}
 use Rattle.qc_text.specs.declared.cursor.Ident.{Ident}
@@ -12,7 +13,6 @@ use Rattle.qc_lrtl.specs.declared.syntax.Expr.{Expr}
 use Rattle.qc_lrtl.specs.declared.syntax.Param.{Param}
 use Rattle.qc_widths.specs.declared.scope.Bound as code
 use Rattle.qc_widths.specs.declared.scope.Callee.TheVariants.{Unknown, Declared}
-use Rattle.qc_widths.specs.Numbers.{is_there}
 use Rattle.qc_widths.specs.Scopes.{Bound, function, Facts, Meaning, Scope, is_plain, takes}
 use Rattle.qc_lrtl.specs.declared.syntax.Effect.{Effect}
 use Rattle.qc_widths.specs.Effects.{acts_of, acts_of_meaning}

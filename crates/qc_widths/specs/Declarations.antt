@@ -4,6 +4,7 @@ use Rattle.std.specs.Prelude.{Option, None, Some}
 use Rattle.std.specs.List.{flat_map}
 use Rattle.std.specs.Option.{option_map}
 use Rattle.qc_text.specs.declared.cursor.Ident.{Ident}
+use Rattle.qc_names.specs.Tables.{is_there}
 use Rattle.qc_lrtl.specs.declared.syntax.Expr.{Expr}
 use Rattle.qc_lrtl.specs.declared.syntax.Effect.{Effect}
 use Rattle.qc_lrtl.specs.declared.syntax.Param.{Param}
@@ -12,7 +13,7 @@ use Rattle.qc_lrtl.specs.declared.syntax.OperandKind.{OperandKind}
 use Rattle.qc_lrtl.specs.declared.syntax.OperandKind.TheVariants.{Register, Immediate, Address}
 use Rattle.qc_lrtl.specs.declared.syntax.Item.{Item}
 use Rattle.qc_lrtl.specs.declared.syntax.Item.TheVariants.{Word, Space, Function, Effects, Instruction}
-use Rattle.qc_widths.specs.Numbers.{is_there, width_in}
+use Rattle.qc_widths.specs.Numbers.{width_in}
 use Rattle.qc_widths.specs.Values.{faulty}
 use Rattle.qc_widths.specs.declared.facts.Local.TheVariants.{Plain as plain, Applied as applied}
 use Rattle.qc_widths.specs.declared.facts.Local.{Local}

@@ -1,9 +1,9 @@
 -- Symbol tables of functions and named effects.
 use Rattle.std.specs.Prelude.{ℕ, ◌≡◌, List, map, slice_get, Some}
+use Rattle.qc_names.specs.Tables.{number_at}
 use Rattle.qc_lrtl.specs.declared.syntax.Item.{Item}
 use Rattle.qc_widths.specs.declared.functions.Functions.{Functions}
 use Rattle.qc_widths.specs.Declarations.{function_items, place_of_function}
-use Rattle.qc_widths.specs.Tables.{number_at}
 
 -- The table has the functions and named effects that these items declare, in order, and of each name the first.
 pub record IsTableOf (items : List Item) (functions : Functions) : Type 0 where

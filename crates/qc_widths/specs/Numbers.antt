@@ -2,16 +2,13 @@
 use Rattle.std.specs.Prelude.{ℕ, zero, suc, ◌/◌, ◌^◌, min, Bool, true, false, ◌&&◌, ◌||◌, nat_eq, nat_lt, nat_le}
 use Rattle.std.specs.Prelude.{if◌then◌else◌, List, [], ◌∷◌, ◌++◌, Option, None, Some}
 use Rattle.qc_text.specs.declared.number.Number.{Number}
+use Rattle.qc_names.specs.Tables.{is_there}
 use Rattle.qc_widths.specs.declared.faults.WidthFault.{WidthFault}
 use Rattle.qc_widths.specs.declared.faults.WidthFault.TheVariants.{WidthClash}
 
 abbrev pub is_empty : {A : Type 0} → List A → Bool
 is_empty [] = true
 is_empty (x ∷ xs) = false
-
-abbrev pub is_there : {A : Type 0} → Option A → Bool
-is_there None = false
-is_there (Some x) = true
 
 -- a clash at a token, in which 65 stands for all numbers above 64
 abbrev pub clash : ℕ → ℕ → ℕ → WidthFault

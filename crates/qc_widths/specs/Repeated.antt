@@ -3,6 +3,7 @@ use Rattle.std.specs.Prelude.{ℕ, Bool, ◌||◌, if◌then◌else◌, List, []
 use Rattle.std.specs.List.{list_any}
 use Rattle.std.specs.Str.{bytes_eq}
 use Rattle.qc_text.specs.declared.cursor.Ident.{Ident}
+use Rattle.qc_names.specs.Tables.{is_there, number_at, entered}
 use Rattle.qc_lrtl.specs.declared.syntax.Item.{Item}
 use Rattle.qc_widths.specs.declared.faults.WidthFault.{WidthFault}
 use Rattle.qc_widths.specs.declared.faults.WidthFault.TheVariants.{TwiceNamed}
@@ -10,11 +11,9 @@ use Rattle.qc_widths.specs.declared.repeated.Kind.{Kind}
 use Rattle.qc_widths.specs.declared.repeated.Kind.TheVariants.{Single, Space, Function, Instruction}
 use Rattle.qc_widths.specs.declared.repeated.Seen.{Seen}
 use Rattle.qc_widths.specs.Faults.{told_of_both, told}
-use Rattle.qc_widths.specs.Numbers.{is_there}
 use Rattle.qc_widths.specs.Scopes.{operators}
 use Rattle.qc_widths.specs.Declarations.{space_name, function_name, instruction_name}
 use Rattle.qc_widths.specs.Machine.{single_item}
-use Rattle.qc_widths.specs.Tables.{number_at, entered}
 
 -- the fault of a name at a token, if it is known or was seen
 abbrev pub repeat_of : Bool → List (List ℕ × ℕ) → ℕ → List ℕ → List WidthFault

@@ -6,6 +6,7 @@ use Rattle.std.specs.Str.{bytes_eq}
 use Rattle.qc_words.specs.declared.operator.Op.{Op}
 use Rattle.qc_words.specs.declared.operator.Op.TheVariants as op
 use Rattle.qc_words.specs.Operators.{is_unary}
+use Rattle.qc_names.specs.Tables.{is_there}
 use Rattle.qc_terms.specs.declared.term.Dest.{Dest}
 use Rattle.qc_terms.specs.declared.term.Place.TheVariants as place
 use Rattle.qc_terms.specs.declared.term.Term.{Term}
@@ -19,7 +20,6 @@ use Rattle.qc_widths.specs.declared.facts.SpaceFacts.{SpaceFacts}
 use Rattle.qc_widths.specs.declared.facts.Target.{Target}
 use Rattle.qc_widths.specs.declared.faults.WidthFault.{WidthFault}
 use Rattle.qc_widths.specs.declared.faults.WidthFault.TheVariants.{UnknownName}
-use Rattle.qc_widths.specs.Numbers.{is_there}
 use Rattle.qc_widths.specs.Values.{Value, bits_of, leaf}
 
 -- the first of a list that has this name

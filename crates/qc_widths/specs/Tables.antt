@@ -1,21 +1,11 @@
 -- Symbol tables.
-use Rattle.std.specs.Prelude.{ℕ, ◌≡◌, ◌<◌, ◌≤◌, ◌^◌, All, cond, List, [], ◌∷◌, ◌++◌, length, map, take, slice_get, Option, None, Some}
+use Rattle.std.specs.Prelude.{ℕ, ◌≡◌, ◌<◌, ◌≤◌, ◌^◌, All, List, length, map, take, slice_get, Option, Some}
 use Rattle.std.specs.List.{flat_map}
-use Rattle.std.specs.Str.{bytes_eq}
+use Rattle.qc_names.specs.Tables.{number_at}
 use Rattle.qc_lrtl.specs.declared.syntax.Item.{Item}
 use Rattle.qc_widths.specs.declared.facts.SpaceFacts.{SpaceFacts}
-use Rattle.qc_widths.specs.Numbers.{is_there}
 use Rattle.qc_widths.specs.Scopes.{placed_from}
 use Rattle.qc_widths.specs.Declarations.{place_of, function_name, function_items}
-
--- the number that the entries give a name
-abbrev pub number_at : List (List ℕ × ℕ) → List ℕ → Option ℕ
-number_at [] name = None
-number_at (e ∷ es) name = cond (bytes_eq name e.0) (Some e.1) (number_at es name)
-
--- the entries after a name is entered, which stay as they are where they have it
-abbrev pub entered : List (List ℕ × ℕ) → List ℕ → ℕ → List (List ℕ × ℕ)
-entered es name number = cond (is_there (number_at es name)) es (es ++ (name, number) ∷ [])
 
 -- the first place of a name among these
 abbrev pub first_place : List (List ℕ) → List ℕ → Option ℕ

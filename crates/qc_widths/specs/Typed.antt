@@ -1,5 +1,6 @@
 -- What expressions and effects without faults come to is well typed.
 use Rattle.std.specs.Prelude.{ℕ, ◌≡◌, ◌≢◌, ◌≤◌, true, false, List, [], ◌∷◌, length, map, count_by, All, Option, None, Some, IfSome}
+use Rattle.qc_names.specs.Tables.{is_there}
 use Rattle.qc_terms.specs.State.{Context}
 use Rattle.qc_terms.specs.Tree.{tree_of, width_of}
 use Rattle.qc_terms.specs.Typing.{IsTyped, IsTypedEffect, IsRegister, is_event}
@@ -8,7 +9,6 @@ use Rattle.qc_descr.specs.Valid.{NamesOperands, NamesPlace, EffectNames}
 use Rattle.qc_widths.specs.declared.facts.Local.{Local}
 use Rattle.qc_widths.specs.declared.facts.Local.TheVariants.{Plain as plain, Applied as applied}
 use Rattle.qc_widths.specs.declared.facts.Target.{Target}
-use Rattle.qc_widths.specs.Numbers.{is_there}
 use Rattle.qc_widths.specs.Values.{Value}
 use Rattle.qc_widths.specs.Scopes.{Facts, Bound, argument, operand, function, Act, Meaning, Scope, Names, operand_value, target_of_operand}
 use Rattle.qc_widths.specs.Effects.{effect_of, clashes_of_act}

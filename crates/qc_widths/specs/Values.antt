@@ -4,11 +4,12 @@ use Rattle.std.specs.Prelude.{List, [], ◌∷◌, ◌++◌, Option, None, Some}
 use Rattle.qc_words.specs.declared.operator.Op.{Op}
 use Rattle.qc_words.specs.declared.operator.Op.TheVariants.{Slice}
 use Rattle.qc_words.specs.Operators.{is_unary, result_width_of}
+use Rattle.qc_names.specs.Tables.{is_there}
 use Rattle.qc_terms.specs.declared.term.Term.{Term}
 use Rattle.qc_terms.specs.declared.term.Term.TheVariants as term
 use Rattle.qc_text.specs.declared.number.Number.{Number}
 use Rattle.qc_widths.specs.declared.faults.WidthFault.{WidthFault}
-use Rattle.qc_widths.specs.Numbers.{is_empty, is_there, clash, width_in, literal_faults, access_faults, access_width}
+use Rattle.qc_widths.specs.Numbers.{is_empty, clash, width_in, literal_faults, access_faults, access_width}
 
 -- An expression in which no function is left. Its token is that of its outermost node, by which a clash of its width is
 -- told. It has no width where a fault stands in it, or where its width hangs on a number that is a fault. Its clashes

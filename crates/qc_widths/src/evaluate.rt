@@ -3,6 +3,7 @@ ghost use Rattle.std.specs.Prelude.{◌≡◌, ◌&&◌, nat_eq, ℕ, true, fals
 ghost use Rattle.std.specs.Prelude.{Option, None, Some, IfOk};
 ghost use Rattle.std.specs.List.{list_all};
 ghost use Rattle.std.specs.Option.{option_copied};
+ghost use Rattle.qc_names.specs.Tables.{is_there};
 ghost use Rattle.qc_widths.specs.Declarations.{arity_of};
 ghost use Rattle.qc_widths.specs.Evaluated.{AreBelow, AreBound, IsBelow, IsBound, IsBoundBelow, IsCallee};
 ghost use Rattle.qc_widths.specs.Evaluated.{IsPlain, IsScope};
@@ -10,7 +11,6 @@ ghost use Rattle.qc_widths.specs.Evaluated.{IsSettled, IsValue, apply_of, bindin
 ghost use Rattle.qc_widths.specs.Expressions.{bare_name, bindings, expression_of, function_of, function_of_meaning};
 ghost use Rattle.qc_widths.specs.Expressions.{function_of_operator, target_of, target_of_bound, use_of, use_of_meaning};
 ghost use Rattle.qc_widths.specs.Expressions.{value_of, value_of_bound};
-ghost use Rattle.qc_widths.specs.Numbers.{is_there};
 ghost use Rattle.qc_widths.specs.Scopes.{Meaning, Scope as SpecScope, argument, bound_in, meaning_in};
 ghost use Rattle.qc_widths.specs.Scopes.{target_of_operand};
 ghost use Rattle.qc_widths.specs.Values as values;

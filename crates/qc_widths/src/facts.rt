@@ -1,9 +1,9 @@
 //! What all expressions of a machine are written for.
 use crate::faults::WidthFault;
-use crate::name_table::NameTable;
 use crate::numbers::{width_fault, width_in};
 use crate::spaces::{spaces_of, word_of};
 use qc_lrtl::{Item, OperandKind};
+use qc_names::NameTable;
 use qc_terms::Place;
 use qc_text::{Ident, Number, Text};
 use qc_words::Width;

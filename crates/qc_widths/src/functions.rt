@@ -4,8 +4,8 @@ ghost use Rattle.std.specs.Option.{option_copied, option_to_list};
 ghost use Rattle.qc_widths.specs.Declarations.{function_name};
 ghost use Rattle.qc_widths.specs.Tables.{HasFirst};
 
-use crate::name_table::NameTable;
 use qc_lrtl::Item;
+use qc_names::NameTable;
 use qc_text::Ident;
 use sqlite_items::{Items, at};
 use std::alloc::{AllocError, Global};

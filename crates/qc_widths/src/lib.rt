@@ -17,7 +17,6 @@ mod given;
 mod items;
 mod limits;
 mod machine;
-mod name_table;
 mod names;
 mod nodes;
 mod numbers;

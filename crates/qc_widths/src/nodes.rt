@@ -2,12 +2,13 @@
 ghost use Rattle.std.specs.Prelude.{◌≡◌, ◌+◌, ◌<◌, ◌^◌, ◌&&◌, min, IfOk, if◌then◌else◌, List, None, false};
 ghost use Rattle.qc_words.specs.Operators.{is_unary as is_unary_operator, result_width_of};
 ghost use Rattle.qc_words.specs.declared.operator.Op.TheVariants as op;
+ghost use Rattle.qc_names.specs.Tables.{is_there};
 ghost use Rattle.qc_terms.specs.declared.term.Term.TheVariants as term;
 ghost use Rattle.qc_widths.specs.declared.faults.WidthFault.{WidthFault as Fault};
 ghost use Rattle.qc_widths.specs.Evaluated.{IsValue};
 ghost use Rattle.qc_widths.specs.Expressions.{value_of_cell};
 ghost use Rattle.qc_widths.specs.Faults.{told};
-ghost use Rattle.qc_widths.specs.Numbers.{is_empty, is_there};
+ghost use Rattle.qc_widths.specs.Numbers.{is_empty};
 ghost use Rattle.qc_widths.specs.Numbers as numbers;
 ghost use Rattle.qc_widths.specs.Scopes as scopes;
 ghost use Rattle.qc_widths.specs.Values as values;

@@ -8,10 +8,10 @@ ghost use Rattle.qc_widths.specs.Machine.{repeated as repeated_names, repeated_a
 ghost use Rattle.qc_widths.specs.Repeated.{noted, noted_all, names_of, known_names};
 
 use crate::faults::WidthFault;
-use crate::name_table::NameTable;
 use crate::operators::operator_named;
 use crate::order::earlier;
 use qc_lrtl::{Item, Operand, Param};
+use qc_names::NameTable;
 use std::alloc::{AllocError, Global};
 
 /// The kinds of names that a text declares, each of which may stand once.

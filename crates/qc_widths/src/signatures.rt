@@ -1,7 +1,7 @@
 //! What is told of functions and named effects without their uses.
 ghost use Rattle.std.specs.Prelude.{◌≡◌, ◌++◌, [], cond, true, false, length, map, take, IfOk, OnOk};
 ghost use Rattle.std.specs.List.{list_all};
-ghost use Rattle.qc_widths.specs.Numbers.{is_there};
+ghost use Rattle.qc_names.specs.Tables.{is_there};
 ghost use Rattle.qc_widths.specs.Scopes as scopes;
 ghost use Rattle.qc_widths.specs.Declarations as declared;
 ghost use Rattle.qc_widths.specs.Functions.{IsTableOf};

@@ -4,9 +4,9 @@ ghost use Rattle.qc_widths.specs.Declarations.{word_in, spaces_in};
 ghost use Rattle.qc_widths.specs.Tables.{HasTable};
 
 use crate::facts::SpaceFacts;
-use crate::name_table::NameTable;
 use crate::numbers::width_in;
 use qc_lrtl::Item;
+use qc_names::NameTable;
 use qc_text::Text;
 use qc_words::Width;
 use sqlite_items::Items;

@@ -1,4 +1,7 @@
+mod checks;
+
 use super::*;
+use crate::answer::Fault;
 use crate::memory_files::MemShelf;
 use crate::memory_out::MemOut;
 use std::process::Abort;
@@ -234,9 +237,14 @@ fn refuses_other_texts_in_order(rt: HostRuntime) -> Outcome {
 }
 
 /// Words that are no command, and the number of the first wrong one.
-const WRONG_WORDS: [(&[&str], usize); 14] = [
+const WRONG_WORDS: [(&[&str], usize); 19] = [
     (&[], 0),
     (&["frob"], 0),
+    (&["check"], 1),
+    (&["check", "a"], 2),
+    (&["check", "a", "b", "c"], 3),
+    (&["check", "-x", "b"], 1),
+    (&["check", "a", ""], 2),
     (&["frob", "a"], 0),
     (&[""], 0),
     (&["compile"], 1),

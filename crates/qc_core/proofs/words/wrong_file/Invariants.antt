@@ -5,4 +5,4 @@ use Rattle.qc_core.proofs.words.wrong_file.Given as goal
 
 -- the file words before the place are right, and few enough
 abbrev pub invariant-loop-place : goal.invariant-loop-place
-invariant-loop-place l = (l.place ≤ 5) × (list_all is_file_word (take l.place (texts_of l.files)) ≡ true)
+invariant-loop-place l = (l.place ≤ l.count) × (list_all is_file_word (take l.place (texts_of l.files)) ≡ true)

@@ -1,5 +1,6 @@
 use Rattle.std.proofs.Common.{ap, sym, ◌∙◌, ◌≡◌, ◌<◌, ◌&&◌, arith, if◌then◌else◌}
-use Rattle.qc_widths.specs.Numbers.{is_there, width_in}
+use Rattle.qc_names.specs.Tables.{is_there}
+use Rattle.qc_widths.specs.Numbers.{width_in}
 use Rattle.qc_words.specs.declared.operator.Op.TheVariants.{Sx, Zx}
 use Rattle.qc_widths.specs.Evaluated.{nodes_in}
 use Rattle.qc_widths.specs.Values as values

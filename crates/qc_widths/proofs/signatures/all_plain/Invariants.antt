@@ -1,6 +1,6 @@
 use Rattle.std.proofs.Common.{◌≡◌, drop, cond, true, false}
 use Rattle.std.specs.List.{list_all}
-use Rattle.qc_widths.specs.Numbers.{is_there}
+use Rattle.qc_names.specs.Tables.{is_there}
 use Rattle.qc_widths.proofs.signatures.all_plain.Given as goal
 
 abbrev pub invariant-loop-param : goal.invariant-loop-param

@@ -1,0 +1,150 @@
+//! Descriptions from the two texts that the first files of a command are: that of a machine, and that of its coding.
+ghost use Rattle.std.specs.Prelude.{◌≡◌, ◌≤◌, length, drop, IfOk, IfErr, IfSome, MatchResult};
+ghost use Rattle.qc_descr.specs.Parts.{AreParts};
+ghost use Rattle.qc_descr.specs.Valid.{IsValid};
+ghost use Rattle.qc_core.specs.Answer.{KeepsShelfFaults};
+ghost use Rattle.qc_core.specs.Command.{texts_of};
+ghost use Rattle.qc_core.specs.Files.{file_limit, input_of, name_of};
+ghost use Rattle.qc_core.specs.Stages.{StopsAtText, StopsDescribing, StopsFor, fault_of_text};
+ghost use Rattle.qc_core.specs.Texts.{IsCodingFault, IsDescriptionOf, IsMachineFault, IsMachineOf};
+ghost use Rattle.qc_core.specs.Texts.{MeansDescription, MeansMachine};
+
+use crate::answer::{Fault, Status};
+use crate::inputs::{file_word, read_input};
+use crate::outside::Shelf;
+use qc_descr::Description;
+use qc_join::{JoinEnd, join};
+use qc_lrtl::read_lrtl;
+use qc_sled::read_sled;
+use qc_text::{ReadTextEnd, ReadTextFault};
+use qc_widths::{Machine, WidthEnd, elaborate};
+use std::alloc::Global;
+
+/// The number of the machine's text among the files.
+const MACHINE: usize = 1;
+
+/// The number of the coding's text among the files.
+const CODING: usize = 2;
+
+/// The fault of the file of this number, which is no text of its grammar.
+fn text_fault(file: usize, fault: ReadTextFault) -> Fault
+    ensures { result ≡ fault_of_text file fault }
+{
+    match fault {
+        ReadTextFault::BadByte { at } => Fault::BadByte { file, at },
+        ReadTextFault::Syntax { token } => Fault::Syntax { file, token },
+        ReadTextFault::TooDeep { token } => Fault::TooDeep { file, token },
+    }
+}
+
+/// The machine of a text.
+fn machine_in(alloc: Global, bytes: &[u8]) -> Result<Machine, Status>
+    ensures machine { IfOk result (MeansMachine bytes.now) }
+    ensures parts { IfOk result (λ machine. AreParts machine.given machine.spaces machine.operations) }
+    ensures stops { IfErr result (StopsFor (IsMachineFault bytes.now)) }
+{
+    match read_lrtl(alloc, bytes) {
+        Ok(raw) => match elaborate(alloc, &raw) {
+            Ok(machine) => Ok(machine),
+            Err(WidthEnd::Fault { fault }) => Err(Status::Refused {
+                fault: Fault::Names { fault },
+            }),
+            Err(WidthEnd::NoMemory) => Err(Status::NoMemory),
+        },
+        Err(ReadTextEnd::Fault { fault }) => Err(Status::Refused {
+            fault: text_fault(MACHINE, fault),
+        }),
+        Err(ReadTextEnd::NoMemory) => Err(Status::NoMemory),
+    }
+}
+
+/// The description of a machine and a coding's text.
+fn description_in(alloc: Global, machine: Machine, bytes: &[u8]) -> Result<Description, Status>
+    requires { AreParts machine.given machine.spaces machine.operations }
+    ensures description { IfOk result (MeansDescription machine bytes.now) }
+    ensures valid { IfOk result IsValid }
+    ensures stops { IfErr result (StopsFor (IsCodingFault machine bytes.now)) }
+{
+    match read_sled(alloc, bytes) {
+        Ok(raw) => match join(alloc, machine, &raw) {
+            Ok(descr) => Ok(descr),
+            Err(JoinEnd::Fault { fault }) => Err(Status::Refused {
+                fault: Fault::Join { fault },
+            }),
+            Err(JoinEnd::NoMemory) => Err(Status::NoMemory),
+        },
+        Err(ReadTextEnd::Fault { fault }) => Err(Status::Refused {
+            fault: text_fault(CODING, fault),
+        }),
+        Err(ReadTextEnd::NoMemory) => Err(Status::NoMemory),
+    }
+}
+
+/// The machine of the first file.
+fn read_machine<S: Shelf>(
+    alloc: Global,
+    words: &Vec<String>,
+    shelf: &mut S,
+) -> Result<Machine, Status>
+    requires { 1 ≤ length (drop 1 (texts_of words.now.items)) }
+    ensures machine { IfOk result (λ machine. IfSome (S.files shelf.old) (λ files.
+        IsMachineOf files (drop 1 (texts_of words.now.items)) machine)) }
+    ensures parts { IfOk result (λ machine. AreParts machine.given machine.spaces machine.operations) }
+    ensures stops { IfErr result (StopsAtText 1 IsMachineFault (name_of (drop 1 (texts_of words.now.items)) 1)
+        (S.files shelf.old) (S.faults shelf.old) (S.faults shelf.new)) }
+    ensures files { S.files shelf.new ≡ S.files shelf.old }
+    ensures kept { MatchResult result (λ _. S.faults shelf.new ≡ S.faults shelf.old)
+        (λ status. KeepsShelfFaults status (S.faults shelf.old) (S.faults shelf.new)) }
+    ensures later { S.faults shelf.old ≤ S.faults shelf.new }
+{
+    let bytes = read_input(alloc, shelf, file_word(words, MACHINE), MACHINE)?;
+    machine_in(alloc, bytes.as_slice())
+}
+
+/// The description of the machine and the second file.
+fn read_coding<S: Shelf>(
+    alloc: Global,
+    words: &Vec<String>,
+    shelf: &mut S,
+    machine: Machine,
+) -> Result<Description, Status>
+    requires two { 2 ≤ length (drop 1 (texts_of words.now.items)) }
+    requires parts { AreParts machine.given machine.spaces machine.operations }
+    ensures description { IfOk result (λ descr. IfSome (S.files shelf.old) (λ files.
+        (length (input_of files (drop 1 (texts_of words.now.items)) 2) ≤ file_limit)
+        × MeansDescription machine (input_of files (drop 1 (texts_of words.now.items)) 2) descr)) }
+    ensures valid { IfOk result IsValid }
+    ensures stops { IfErr result (StopsAtText 2 (IsCodingFault machine)
+        (name_of (drop 1 (texts_of words.now.items)) 2)
+        (S.files shelf.old) (S.faults shelf.old) (S.faults shelf.new)) }
+    ensures files { S.files shelf.new ≡ S.files shelf.old }
+    ensures kept { MatchResult result (λ _. S.faults shelf.new ≡ S.faults shelf.old)
+        (λ status. KeepsShelfFaults status (S.faults shelf.old) (S.faults shelf.new)) }
+    ensures later { S.faults shelf.old ≤ S.faults shelf.new }
+{
+    let bytes = read_input(alloc, shelf, file_word(words, CODING), CODING)?;
+    description_in(alloc, machine, bytes.as_slice())
+}
+
+/// The description that the first two files of a command make. The second is read once the first is a machine.
+pub(crate) fn read_description<S: Shelf>(
+    alloc: Global,
+    words: &Vec<String>,
+    shelf: &mut S,
+) -> Result<Description, Status>
+    requires { 2 ≤ length (drop 1 (texts_of words.now.items)) }
+    ensures description { IfOk result (λ descr. IfSome (S.files shelf.old) (λ files.
+        IsDescriptionOf files (drop 1 (texts_of words.now.items)) descr)) }
+    ensures valid { IfOk result IsValid }
+    ensures stops { IfErr result (StopsDescribing (drop 1 (texts_of words.now.items))
+        (S.files shelf.old) (S.faults shelf.old) (S.faults shelf.new)) }
+    ensures files { S.files shelf.new ≡ S.files shelf.old }
+    ensures kept { MatchResult result (λ _. S.faults shelf.new ≡ S.faults shelf.old)
+        (λ status. KeepsShelfFaults status (S.faults shelf.old) (S.faults shelf.new)) }
+    ensures later { S.faults shelf.old ≤ S.faults shelf.new }
+{
+    match read_machine(alloc, words, shelf) {
+        Ok(machine) => read_coding(alloc, words, shelf, machine),
+        Err(status) => Err(status),
+    }
+}

@@ -1,0 +1,15 @@
+mod Alternatives
+mod ItemFields
+mod Joined
+mod NameSets
+mod NotedNames
+mod Operands
+mod Parts
+mod PatternFaults
+mod Places
+mod SameFaults
+mod Sound
+mod SoundPatterns
+mod Tables
+mod Told
+mod Whole
