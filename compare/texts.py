@@ -1,7 +1,8 @@
 """Compares the constants of crates/qc_machines/src with the files of the folder machines, byte for byte.
 
-A constant X_LRTL or X_SLED has the bytes of x.lrtl or x.sled. The exit status is 1, with a message, where a constant
-and its file differ, or where one of the two is missing.
+A constant X_LRTL or X_SLED has the bytes of x.lrtl or x.sled. The data of the program's stored run has copies of some of
+these files. The exit status is 1, with a message, where a constant or a copy and its file differ, or where one of the two
+is missing.
 """
 
 import re
@@ -54,12 +55,14 @@ def main():
     wrong += [f"{file}: a constant without a file" for file in sorted(texts.keys() - files.keys())]
     for file in sorted(files.keys() & texts.keys()):
         wrong += filter(None, [difference(file, texts[file], files[file])])
+    copies = [path for path in (ROOT / "crates/quick/data").iterdir() if path.suffix in (".lrtl", ".sled")]
+    wrong += [f"{path.name}: the copy in crates/quick/data differs" for path in copies if path.read_bytes() != files.get(path.name)]
     if not files:
         wrong.append("machines: no files")
     for message in wrong:
         print(message)
     if not wrong:
-        print(f"{len(files)} files equal their constants")
+        print(f"{len(files)} files equal their constants, and {len(copies)} copies their files")
     return 1 if wrong else 0
 
 

@@ -1,5 +1,5 @@
 -- What the two texts of a description come to excludes all else.
-use Rattle.std.proofs.Common.{◌≡◌, ◌<◌, ◌≤◌, ◌⊎◌, ℕ, List, length, refl, sym, ap, subst, ◌∙◌, arith, inl, inr, ⊎_elim}
+use Rattle.std.proofs.Common.{◌≡◌, ◌≤◌, ◌⊎◌, ℕ, List, length, refl, sym, ap, subst, ◌∙◌, arith, inl, inr, ⊎_elim}
 use Rattle.std.specs.Prelude.{Option, None, Some, Result, Ok, Err, IfSome}
 use Rattle.qc_text.specs.declared.answers.ReadTextFault.{ReadTextFault}
 use Rattle.qc_text.specs.declared.answers.ReadTextFault.TheVariants as text
@@ -18,16 +18,16 @@ use Rattle.qc_join.specs.declared.faults.JoinEnd.TheVariants as joined
 use Rattle.qc_join.specs.declared.faults.JoinFault.{JoinFault}
 use Rattle.qc_join.specs.declared.faults.JoinFault.TheVariants as join
 use Rattle.qc_join.specs.Joining.{Joins, name_fault, parts_of}
+use Rattle.qc_outside.specs.Files.{Files, file_limit, input_of, name_of}
 use Rattle.qc_core.specs.declared.answer.Fault.{Fault}
-use Rattle.qc_core.specs.declared.answer.Fault.TheVariants.{TooLong, BadByte, Syntax, TooDeep, Names, Join, NotYet}
+use Rattle.qc_core.specs.declared.answer.Fault.TheVariants.{TooLong, BadByte, Syntax, TooDeep, Names, Join, BadImage, BadInput, NotYet}
 use Rattle.qc_core.specs.declared.answer.Status.{Status}
-use Rattle.qc_core.specs.declared.answer.Status.TheVariants.{Done, Refused, Usage, ReadFault, WriteFault, OutFault, NoMemory}
-use Rattle.qc_core.specs.Answer.{CheckLeaves, IsRefusalStatus, Outside, file_of}
-use Rattle.qc_core.specs.Faults.{Rose}
-use Rattle.qc_core.specs.Files.{Files, file_limit, input_of}
-use Rattle.qc_core.specs.Stages.{fault_of_text}
-use Rattle.qc_core.specs.Texts.{IsCheckRefused, IsCodingFault, IsCodingText, IsDescriptionOf, IsFileFault, IsMachineFault, IsMachineOf, IsMachineText, MeansDescription, MeansMachine}
-use Rattle.qc_core.proofs.TextAnswers.{TokenLaws, one_text_answer}
+use Rattle.qc_core.specs.Known.{TokenLaws}
+use Rattle.qc_core.specs.Readings.{no_file}
+use Rattle.qc_core.specs.Stages.{StopsFor, StopsReading, StopsToRead, fault_of_text}
+use Rattle.qc_core.specs.Texts.{IsCodingFault, IsCodingText, IsMachineFault, IsMachineText, MeansDescription, MeansMachine, description_reading, machine_reading}
+use Rattle.qc_core.proofs.Readings.{AreGood, AreOfFile, IsExact, IsExactFile, exact_no_file, exact_then_file, stops_before, stops_in, stops_there, stops_to_read}
+use Rattle.qc_core.proofs.TextAnswers.{one_text_answer}
 
 -- a fault and no fault
 none_some : {A : Type 0} (o : Option A) (x : A) → o ≡ None → o ≡ Some x → ⊥
@@ -59,17 +59,12 @@ one_raw laws bytes x y p q = same_ok (Ok y) x y (sym (one_machine_text laws byte
 one_raw_coding : TokenLaws → (bytes : List ℕ) (x y : RawCoding) → IsCodingText bytes (Ok x) → IsCodingText bytes (Ok y) → x ≡ y
 one_raw_coding laws bytes x y p q = same_ok (Ok y) x y (sym (one_coding_text laws bytes (Ok x) (Ok y) p q)) refl
 
-one_machine : TokenLaws → (bytes : List ℕ) (m n : Machine) → MeansMachine bytes m → MeansMachine bytes n → m ≡ n
+pub one_machine : TokenLaws → (bytes : List ℕ) (m n : Machine) → MeansMachine bytes m → MeansMachine bytes n → m ≡ n
 one_machine laws bytes m n p q = p.is ∙ ap machine_of (one_raw laws bytes p.raw q.raw p.text q.text) ∙ sym q.is
 
-one_described : TokenLaws → (machine : Machine) (bytes : List ℕ) (d e : Description) → MeansDescription machine bytes d → MeansDescription machine bytes e → d ≡ e
+pub one_described : TokenLaws → (machine : Machine) (bytes : List ℕ) (d e : Description) → MeansDescription machine bytes d → MeansDescription machine bytes e → d ≡ e
 one_described laws machine bytes d e p q =
     p.joins.2 ∙ ap (λ (raw : RawCoding). description_of (parts_of machine raw.items)) (one_raw_coding laws bytes p.raw q.raw p.text q.text) ∙ sym q.joins.2
-
-pub one_description : TokenLaws → (files : Files) (names : List (List ℕ)) (d e : Description) → IsDescriptionOf files names d → IsDescriptionOf files names e → d ≡ e
-one_description laws files names d e (m, machine, short, p) (n, other, short_too, q) =
-    let same : n ≡ m = one_machine laws (input_of files names 1) n m other.1 machine.1 in
-    one_described laws m (input_of files names 2) d e p (subst (λ k. MeansDescription k (input_of files names 2) e) same q)
 
 -- A fault of a machine's text is one of its grammar, or of its tree.
 record MachineText (bytes : List ℕ) (fault : Fault) : Type 0 where
@@ -91,6 +86,8 @@ machine_cause bytes (Syntax file token) p = inl (record { cause = text.Syntax to
 machine_cause bytes (TooDeep file token) p = inl (record { cause = text.TooDeep token; text = p.1; is = ap (λ k. TooDeep k token) p.0 })
 machine_cause bytes (Names fault) p = inr (record { cause = fault; raw = p.0; text = p.1; told = p.2; is = refl })
 machine_cause bytes (Join fault) p = absurd p
+machine_cause bytes (BadImage at) p = absurd p
+machine_cause bytes (BadInput at) p = absurd p
 machine_cause bytes (NotYet form) p = absurd p
 
 one_machine_fault : TokenLaws → (bytes : List ℕ) (a b : Fault) → IsMachineFault bytes a → IsMachineFault bytes b → a ≡ b
@@ -104,7 +101,7 @@ one_machine_fault laws bytes a b p q = by_cause (machine_cause bytes a p) (machi
         let same : x.raw ≡ y.raw = one_raw laws bytes x.raw y.raw x.text y.text in
         x.is ∙ ap Names (same_some (told (faults_of y.raw)) x.cause y.cause (ap (λ raw. told (faults_of raw)) (sym same) ∙ x.told) y.told) ∙ sym y.is
 
-machine_not_faulty : TokenLaws → (bytes : List ℕ) (machine : Machine) (fault : Fault) → MeansMachine bytes machine → IsMachineFault bytes fault → ⊥
+pub machine_not_faulty : TokenLaws → (bytes : List ℕ) (machine : Machine) (fault : Fault) → MeansMachine bytes machine → IsMachineFault bytes fault → ⊥
 machine_not_faulty laws bytes machine fault means p = by_cause (machine_cause bytes fault p)
   where
     by_cause : MachineText bytes fault ⊎ MachineNames bytes fault → ⊥
@@ -161,6 +158,8 @@ coding_cause machine bytes (Syntax file token) p = inl (record { cause = text.Sy
 coding_cause machine bytes (TooDeep file token) p = inl (record { cause = text.TooDeep token; text = p.1; is = ap (λ k. TooDeep k token) p.0 })
 coding_cause machine bytes (Names fault) p = absurd p
 coding_cause machine bytes (Join fault) p = inr (record { cause = fault; raw = p.0; text = p.1; joins = p.2; is = refl })
+coding_cause machine bytes (BadImage at) p = absurd p
+coding_cause machine bytes (BadInput at) p = absurd p
 coding_cause machine bytes (NotYet form) p = absurd p
 
 one_coding_fault : TokenLaws → (machine : Machine) (bytes : List ℕ) (a b : Fault) → IsCodingFault machine bytes a → IsCodingFault machine bytes b → a ≡ b
@@ -174,7 +173,7 @@ one_coding_fault laws machine bytes a b p q = by_cause (coding_cause machine byt
         let same : x.raw ≡ y.raw = one_raw_coding laws bytes x.raw y.raw x.text y.text in
         x.is ∙ ap Join (one_join_fault machine y.raw x.cause y.cause (subst (λ raw. Joins machine raw (Err (joined.Fault x.cause))) same x.joins) y.joins) ∙ sym y.is
 
-described_not_faulty : TokenLaws → (machine : Machine) (bytes : List ℕ) (d : Description) (fault : Fault) → MeansDescription machine bytes d → IsCodingFault machine bytes fault → ⊥
+pub described_not_faulty : TokenLaws → (machine : Machine) (bytes : List ℕ) (d : Description) (fault : Fault) → MeansDescription machine bytes d → IsCodingFault machine bytes fault → ⊥
 described_not_faulty laws machine bytes d fault means p = by_cause (coding_cause machine bytes fault p)
   where
     by_cause : CodingText bytes fault ⊎ CodingJoin machine bytes fault → ⊥
@@ -183,122 +182,81 @@ described_not_faulty laws machine bytes d fault means p = by_cause (coding_cause
         let same : x.raw ≡ means.raw = one_raw_coding laws bytes x.raw means.raw x.text means.text in
         joined_not_faulty machine means.raw d x.cause means.joins (subst (λ raw. Joins machine raw (Err (joined.Fault x.cause))) same x.joins)
 
--- a file that is refused is too long, or short enough with a fault of its text
-length_cause : (file : ℕ) (P : List ℕ → Fault → Type 0) (bytes : List ℕ) (fault : Fault) → IsFileFault file P bytes fault →
-    ((fault ≡ TooLong file) × (file_limit < length bytes)) ⊎ ((length bytes ≤ file_limit) × P bytes fault)
-length_cause file P bytes (TooLong k) p = inl (ap (λ n. TooLong n) p.0, p.1)
-length_cause file P bytes (BadByte k at) p = inr p
-length_cause file P bytes (Syntax k token) p = inr p
-length_cause file P bytes (TooDeep k token) p = inr p
-length_cause file P bytes (Names fault) p = inr p
-length_cause file P bytes (Join fault) p = inr p
-length_cause file P bytes (NotYet form) p = inr p
+-- Faults of a text are of its file, and none of them is that it is too long.
+pub machine_faults : AreOfFile 1 IsMachineFault
+machine_faults bytes (TooLong file) p = absurd p
+machine_faults bytes (BadByte file at) p = (p.0, λ short. (short, p))
+machine_faults bytes (Syntax file token) p = (p.0, λ short. (short, p))
+machine_faults bytes (TooDeep file token) p = (p.0, λ short. (short, p))
+machine_faults bytes (Names fault) p = (refl, λ short. (short, p))
+machine_faults bytes (Join fault) p = absurd p
+machine_faults bytes (BadImage at) p = absurd p
+machine_faults bytes (BadInput at) p = absurd p
+machine_faults bytes (NotYet form) p = absurd p
 
-one_file_fault : (file : ℕ) (P : List ℕ → Fault → Type 0) (bytes : List ℕ) → ((a b : Fault) → P bytes a → P bytes b → a ≡ b) → (a b : Fault) → IsFileFault file P bytes a → IsFileFault file P bytes b → a ≡ b
-one_file_fault file P bytes one a b p q =
-    ⊎_elim
-    (λ long. ⊎_elim
-    (λ other. long.0 ∙ sym other.0)
-    (λ short. absurd (omega (arith, long.1, short.0)))
-    (length_cause file P bytes b q))
-    (λ short. ⊎_elim
-    (λ long. absurd (omega (arith, long.1, short.0)))
-    (λ other. one a b short.1 other.1)
-    (length_cause file P bytes b q))
-    (length_cause file P bytes a p)
+pub coding_faults : (machine : Machine) → AreOfFile 2 (IsCodingFault machine)
+coding_faults machine bytes (TooLong file) p = absurd p
+coding_faults machine bytes (BadByte file at) p = (p.0, λ short. (short, p))
+coding_faults machine bytes (Syntax file token) p = (p.0, λ short. (short, p))
+coding_faults machine bytes (TooDeep file token) p = (p.0, λ short. (short, p))
+coding_faults machine bytes (Names fault) p = absurd p
+coding_faults machine bytes (Join fault) p = (refl, λ short. (short, p))
+coding_faults machine bytes (BadImage at) p = absurd p
+coding_faults machine bytes (BadInput at) p = absurd p
+coding_faults machine bytes (NotYet form) p = absurd p
 
-no_file_fault : (file : ℕ) (P : List ℕ → Fault → Type 0) (bytes : List ℕ) (fault : Fault) → length bytes ≤ file_limit → (P bytes fault → ⊥) → IsFileFault file P bytes fault → ⊥
-no_file_fault file P bytes fault short none p =
-    ⊎_elim
-    (λ long. omega (arith, long.1, short))
-    (λ faulty. none faulty.1)
-    (length_cause file P bytes fault p)
+-- what the two texts mean, and what is wrong in them, is one thing and not both
+exact_machine_text : TokenLaws → IsExactFile 1 (λ (nothing : Unit {0}). MeansMachine) (λ nothing. IsMachineFault)
+exact_machine_text laws = record {
+  one = λ nothing bytes m n p q. one_machine laws bytes m n p q;
+  one_fault = λ nothing bytes e f p q. one_machine_fault laws bytes e f p q;
+  not_both = λ nothing bytes m f p q. machine_not_faulty laws bytes m f p q;
+  of_file = λ nothing bytes f p. (machine_faults bytes f p).0;
+}
 
--- a file that is a machine is not refused
-machine_is_good : TokenLaws → (files : Files) (names : List (List ℕ)) (machine : Machine) (fault : Fault) → IsMachineOf files names machine → IsFileFault 1 IsMachineFault (input_of files names 1) fault → ⊥
-machine_is_good laws files names machine fault is p =
-    no_file_fault 1 IsMachineFault (input_of files names 1) fault is.0 (machine_not_faulty laws (input_of files names 1) machine fault is.1) p
+exact_coding_text : TokenLaws → IsExactFile 2 MeansDescription IsCodingFault
+exact_coding_text laws = record {
+  one = λ machine bytes d e p q. one_described laws machine bytes d e p q;
+  one_fault = λ machine bytes e f p q. one_coding_fault laws machine bytes e f p q;
+  not_both = λ machine bytes d f p q. described_not_faulty laws machine bytes d f p q;
+  of_file = λ machine bytes f p. (coding_faults machine bytes f p).0;
+}
 
-pub one_check_refusal : TokenLaws → (files : Files) (names : List (List ℕ)) (a b : Fault) → IsCheckRefused files names a → IsCheckRefused files names b → a ≡ b
-one_check_refusal laws files names a b (inl p) (inl q) =
-    one_file_fault 1 IsMachineFault (input_of files names 1) (one_machine_fault laws (input_of files names 1)) a b p q
-one_check_refusal laws files names a b (inl p) (inr (n, machine, q)) = absurd (machine_is_good laws files names n a machine p)
-one_check_refusal laws files names a b (inr (m, machine, p)) (inl q) = absurd (machine_is_good laws files names m b machine q)
-one_check_refusal laws files names a b (inr (m, machine, p)) (inr (n, other, q)) =
-    let same : n ≡ m = one_machine laws (input_of files names 1) n m other.1 machine.1 in
-    one_file_fault 2 (IsCodingFault m) (input_of files names 2) (one_coding_fault laws m (input_of files names 2)) a b p (subst (λ k. IsFileFault 2 (IsCodingFault k) (input_of files names 2) b) same q)
+exact_machine : TokenLaws → (names : List (List ℕ)) → IsExact (machine_reading names)
+exact_machine laws names =
+    exact_then_file names _ exact_no_file 1 (omega arith) _ _ (exact_machine_text laws) (λ nothing machine. machine)
 
-pub checked_is_not_refused : TokenLaws → (files : Files) (names : List (List ℕ)) (d : Description) (fault : Fault) → IsDescriptionOf files names d → IsCheckRefused files names fault → ⊥
-checked_is_not_refused laws files names d fault (m, machine, short, means) (inl p) = machine_is_good laws files names m fault machine p
-checked_is_not_refused laws files names d fault (m, machine, short, means) (inr (n, other, p)) =
-    let same : n ≡ m = one_machine laws (input_of files names 1) n m other.1 machine.1 in
-    no_file_fault 2 (IsCodingFault m) (input_of files names 2) fault short (described_not_faulty laws m (input_of files names 2) d fault means) (subst (λ k. IsFileFault 2 (IsCodingFault k) (input_of files names 2) fault) same p)
+pub exact_description : TokenLaws → (names : List (List ℕ)) → IsExact (description_reading names)
+exact_description laws names =
+    exact_then_file names _ (exact_machine laws names) 2 (omega arith) _ _ (exact_coding_text laws) (λ machine d. d)
 
--- what is told of files that are told
-told_of : (P : Files → Type 0) (files : Files) (o : Option Files) → o ≡ Some files → IfSome o P → P files
-told_of P files o told p = subst (λ q. IfSome q P) told p
+-- files that mean something are all good
+pub machine_good : (names : List (List ℕ)) → AreGood (machine_reading names)
+machine_good names files machine k means = (tt, λ less. (machine, means))
 
--- files that make a description are not refused
-abbrev pub NotRefused : Type 0
-NotRefused = (files : Files) (names : List (List ℕ)) (d : Description) (fault : Fault) → IsDescriptionOf files names d → IsCheckRefused files names fault → ⊥
+pub description_good : (names : List (List ℕ)) → AreGood (description_reading names)
+description_good names files d k means = (machine_good names files means.0 k means.2, λ less. (d, means))
 
--- with no count that rose there is no fault, and what makes a description is not refused
-pub faultless_checks : NotRefused → (names : List (List ℕ)) (files : Files) (d : Description) (old new : Outside) (status : Status) → old.files ≡ Some files → IsDescriptionOf files names d → (Rose old.shelf_faults new.shelf_faults → ⊥) → (Rose old.out_faults new.out_faults → ⊥) → CheckLeaves names old new status → (status ≡ Done) ⊎ (status ≡ NoMemory)
-faultless_checks not_refused names files d old new Done told is shelf out leaves = inl refl
-faultless_checks not_refused names files d old new NoMemory told is shelf out leaves = inr refl
-faultless_checks not_refused names files d old new (Refused fault) told is shelf out leaves =
-    absurd (not_refused files names d fault is (told_of (λ fs. IsCheckRefused fs names fault) files old.files told leaves.1))
-faultless_checks not_refused names files d old new (Usage word) told is shelf out leaves = absurd leaves
-faultless_checks not_refused names files d old new (ReadFault file) told is shelf out leaves = absurd (shelf leaves.0)
-faultless_checks not_refused names files d old new WriteFault told is shelf out leaves = absurd leaves
-faultless_checks not_refused names files d old new OutFault told is shelf out leaves = absurd (out leaves.4.rose)
+-- a reading that stops at the first file, or before or at the second
+no_meaning : (told : Option Files) → IfSome told (λ files. no_file.Means files tt)
+no_meaning None = tt
+no_meaning (Some files) = tt
 
--- a fault of a text is of its file
-file_of_text_fault : (file : ℕ) (P : List ℕ → Fault → Type 0) (bytes : List ℕ) → ((fault : Fault) → P bytes fault → file_of fault ≡ file) → (fault : Fault) → IsFileFault file P bytes fault → file_of fault ≡ file
-file_of_text_fault file P bytes is fault p =
-    ⊎_elim
-    (λ long. ap file_of long.0)
-    (λ short. is fault short.1)
-    (length_cause file P bytes fault p)
+pub stops_in_machine : (names : List (List ℕ)) (bytes : List ℕ) (told : Option Files) (before now : ℕ) (status : Status) → length bytes ≤ file_limit → IfSome told (λ files. bytes ≡ input_of files names 1) → StopsFor (IsMachineFault bytes) status → StopsReading (machine_reading names) told before now status
+stops_in_machine names bytes told before now status short content stops =
+    stops_in {C = Machine} names no_file 1 (omega arith) (λ (nothing : Unit {0}). MeansMachine) (λ nothing. IsMachineFault) (λ nothing machine. machine)
+    (λ files nothing file means. tt) (omega arith) tt machine_faults bytes told before before now status (no_meaning told) refl short content stops
 
-file_of_machine_fault : (bytes : List ℕ) (fault : Fault) → IsMachineFault bytes fault → file_of fault ≡ 1
-file_of_machine_fault bytes (TooLong file) p = absurd p
-file_of_machine_fault bytes (BadByte file at) p = p.0
-file_of_machine_fault bytes (Syntax file token) p = p.0
-file_of_machine_fault bytes (TooDeep file token) p = p.0
-file_of_machine_fault bytes (Names fault) p = refl
-file_of_machine_fault bytes (Join fault) p = absurd p
-file_of_machine_fault bytes (NotYet form) p = absurd p
+pub stops_to_read_machine : (names : List (List ℕ)) (told : Option Files) (before now : ℕ) (status : Status) → StopsToRead 1 (name_of names 1) told before now status → StopsReading (machine_reading names) told before now status
+stops_to_read_machine names told before now status stops =
+    stops_there {C = Machine} names no_file 1 (omega arith) (λ (nothing : Unit {0}). MeansMachine) (λ nothing. IsMachineFault) (λ nothing machine. machine)
+    (λ files nothing file means. tt) (omega arith) tt told before before now status (no_meaning told) refl (stops_to_read 1 IsMachineFault (name_of names 1) told before now status stops)
 
-file_of_coding_fault : (machine : Machine) (bytes : List ℕ) (fault : Fault) → IsCodingFault machine bytes fault → file_of fault ≡ 2
-file_of_coding_fault machine bytes (TooLong file) p = absurd p
-file_of_coding_fault machine bytes (BadByte file at) p = p.0
-file_of_coding_fault machine bytes (Syntax file token) p = p.0
-file_of_coding_fault machine bytes (TooDeep file token) p = p.0
-file_of_coding_fault machine bytes (Names fault) p = absurd p
-file_of_coding_fault machine bytes (Join fault) p = refl
-file_of_coding_fault machine bytes (NotYet form) p = absurd p
+pub stops_before_coding : (names : List (List ℕ)) (told : Option Files) (before now : ℕ) (status : Status) → StopsReading (machine_reading names) told before now status → StopsReading (description_reading names) told before now status
+stops_before_coding names told before now status stops =
+    stops_before names (machine_reading names) 2 (omega arith) MeansDescription IsCodingFault (λ machine d. d) told before now status stops
 
--- a refused first file is no machine, so the second was not read
-read_before : TokenLaws → (files : Files) (names : List (List ℕ)) (fault : Fault) (file : ℕ) → file ≤ 2 → (file ≡ 2 → (machine : Machine) × IsMachineOf files names machine) → IsCheckRefused files names fault → file ≤ file_of fault
-read_before laws files names fault file within before (inl p) =
-    let is : file_of fault ≡ 1 = file_of_text_fault 1 IsMachineFault (input_of files names 1) (file_of_machine_fault (input_of files names 1)) fault p in
-    let not_two : file ≡ 2 → ⊥ = λ two. machine_is_good laws files names (before two).0 fault (before two).1 p in
-    omega (arith, is, not_two, within)
-read_before laws files names fault file within before (inr (m, machine, p)) =
-    let is : file_of fault ≡ 2 = file_of_text_fault 2 (IsCodingFault m) (input_of files names 2) (file_of_coding_fault m (input_of files names 2)) fault p in
-    omega (arith, is, within)
-
--- where a file is refused nothing was checked, and no file after it was read
-pub refused_checks : TokenLaws → (names : List (List ℕ)) (files : Files) (fault : Fault) (old new : Outside) (status : Status) → old.files ≡ Some files → IsCheckRefused files names fault → CheckLeaves names old new status → IsRefusalStatus fault old.shelf_faults new.shelf_faults status
-refused_checks laws names files fault old new Done told refused leaves =
-    absurd (checked_is_not_refused laws files names leaves.0 fault (told_of (λ fs. IsDescriptionOf fs names leaves.0) files old.files told leaves.2) refused)
-refused_checks laws names files fault old new (Refused other) told refused leaves =
-    one_check_refusal laws files names other fault (told_of (λ fs. IsCheckRefused fs names other) files old.files told leaves.1) refused
-refused_checks laws names files fault old new (Usage word) told refused leaves = leaves
-refused_checks laws names files fault old new (ReadFault file) told refused leaves =
-    (leaves.1, read_before laws files names fault file leaves.2 (told_of (λ fs. file ≡ 2 → (machine : Machine) × IsMachineOf fs names machine) files old.files told leaves.3) refused, leaves.0)
-refused_checks laws names files fault old new WriteFault told refused leaves = leaves
-refused_checks laws names files fault old new OutFault told refused leaves =
-    absurd (checked_is_not_refused laws files names leaves.0 fault (told_of (λ fs. IsDescriptionOf fs names leaves.0) files old.files told leaves.2) refused)
-refused_checks laws names files fault old new NoMemory told refused leaves = tt
+pub stops_to_read_coding : (names : List (List ℕ)) (machine : Machine) (told : Option Files) (before now : ℕ) (status : Status) → IfSome told (λ files. (machine_reading names).Means files machine) → StopsToRead 2 (name_of names 2) told before now status → StopsReading (description_reading names) told before now status
+stops_to_read_coding names machine told before now status is stops =
+    stops_there names (machine_reading names) 2 (omega arith) MeansDescription IsCodingFault (λ m d. d)
+    (machine_good names) (omega arith) machine told before before now status is refl (stops_to_read 2 (IsCodingFault machine) (name_of names 2) told before now status stops)

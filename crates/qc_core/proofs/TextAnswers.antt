@@ -1,6 +1,6 @@
 -- A file has at most one answer as a text of a grammar.
-use Rattle.std.proofs.Common.{◌≡◌, ℕ, zero, suc, true, List, [], ◌++◌, length, refl, sym, ap, subst, ◌∙◌, arith, length-append}
-use Rattle.std.specs.Prelude.{◌≢◌, Option, None, Some, Result, Ok, Err, All}
+use Rattle.std.proofs.Common.{◌≡◌, ℕ, zero, suc, true, List, [], length, refl, sym, ap, subst, ◌∙◌, arith, length-append}
+use Rattle.std.specs.Prelude.{Option, None, Some, Result, Ok, Err}
 use Rattle.qc_text.specs.declared.answers.ReadTextFault.{ReadTextFault}
 use Rattle.qc_text.specs.declared.answers.ReadTextFault.TheVariants as text_fault
 use Rattle.qc_text.specs.declared.cursor.ReadError.{ReadError}
@@ -8,7 +8,6 @@ use Rattle.qc_text.specs.declared.cursor.ReadError.TheVariants.{Syntax, TooDeep,
 use Rattle.qc_text.specs.declared.cursor.Stop.{Stop}
 use Rattle.qc_text.specs.declared.cursor.Stop.TheVariants as stop
 use Rattle.qc_text.specs.declared.cursor.Stop.TheVariants.{At}
-use Rattle.qc_text.specs.declared.token.Kind.TheVariants.{End}
 use Rattle.qc_text.specs.declared.token.Token.{Token}
 use Rattle.qc_text.specs.Answer.{Answers, EndsText, IsAnswer, cut, settled}
 use Rattle.qc_text.specs.Brackets.{first_too_deep}
@@ -23,16 +22,10 @@ use Rattle.qc_text.specs.Law.Fuel.{exact}
 use Rattle.qc_text.specs.Law.OneAnswer.{answers}
 use Rattle.qc_text.specs.Law.Tests.{both_true}
 use Rattle.qc_text.specs.Lexeme.{Lexeme, lexemes}
-use Rattle.qc_text.specs.Pieces.{AreTokens, IsBadByte, token_at}
+use Rattle.qc_text.specs.Pieces.{AreTokens, IsBadByte}
 use Rattle.qc_text.specs.Reading.{Read, reads}
 use Rattle.qc_text.specs.TextAnswer.{IsTextAnswer, OfTokens}
-
--- what qc_text's laws on the tokens of a file say
-pub record TokenLaws : Type 0 where
-  pub one : (bytes : List ℕ) (tokens others : List Token) → AreTokens bytes tokens → AreTokens bytes others → tokens ≡ others
-  pub bad : (bytes : List ℕ) (at place : ℕ) → IsBadByte bytes at → IsBadByte bytes place → at ≡ place
-  pub none : (bytes : List ℕ) (tokens : List Token) (at : ℕ) → AreTokens bytes tokens → IsBadByte bytes at → ⊥
-  pub end : (bytes : List ℕ) (tokens : List Token) → AreTokens bytes tokens → (front : List Token) × (tokens ≡ front ++ token_at (length bytes) (Some End) (length bytes)) × All (λ token. token.kind ≢ End) front
+use Rattle.qc_core.specs.Known.{TokenLaws}
 
 -- the tokens of a file end a text
 ends_text : TokenLaws → (reserved : List (List ℕ)) (bytes : List ℕ) (tokens : List Token) → AreTokens bytes tokens → EndsText (lexemes reserved bytes tokens)

@@ -1,25 +1,27 @@
 -- What it means that a program was compiled.
 use Rattle.std.specs.Prelude.{ℕ, ◌≡◌, List, Option, IfSome, IsSomeAnd}
 use Rattle.qc_terms.specs.declared.image.Image.{Image}
-use Rattle.qc_core.specs.declared.constants.ConstantProgram.{ConstantProgram}
+use Rattle.qc_descr.specs.declared.description.Description.{Description}
 use Rattle.qc_descr.specs.Loading.{FitsMachine}
 use Rattle.qc_descr.specs.Valid.{IsValid}
-use Rattle.qc_core.specs.Agreement.{Agrees}
-use Rattle.qc_core.specs.Answer.{IsAccepted}
-use Rattle.qc_core.specs.Files.{Files, content_of, name_of}
-use Rattle.qc_core.specs.ImageFile.{image_bytes}
-use Rattle.qc_core.specs.Tin32.{tin32}
+use Rattle.qc_constants.specs.declared.program.ConstantProgram.{ConstantProgram}
+use Rattle.qc_constants.specs.Agreement.{Agrees}
+use Rattle.qc_outside.specs.Files.{Files, content_of, name_of}
+use Rattle.qc_layout.specs.ImageFile.{image_bytes}
+use Rattle.qc_core.specs.Compilation.{compile_reading}
 
--- The files of numbers 1 to 4, as they were before, stand for tin32, which is valid, and spell a program. The file of
--- number 5, as it is after, is an image that fits tin32 and agrees with the program on every input.
+-- The files of numbers 1 to 4, as they were before, are the texts of a valid description, what stands for its tables, and a
+-- program. The file of number 5, as it is after, is an image that fits the machine and agrees with the program on every
+-- input.
 pub record IsCompiled (names : List (List ℕ)) (before after : Files) : Type 0 where
+  pub description : Description
   pub program : ConstantProgram
-  pub accepted : IsAccepted before names program
-  pub valid : IsValid tin32
+  pub read : (compile_reading names).Means before (description, program)
+  pub valid : IsValid description
   pub image : Image
-  pub fits : FitsMachine tin32 image
+  pub fits : FitsMachine description image
   pub file : content_of after (name_of names 5) ≡ image_bytes image
-  pub agrees : Agrees tin32 program image
+  pub agrees : Agrees description program image
 
 -- the same where the files are told; those that were told before are told after
 abbrev pub IsCompiledTold : List (List ℕ) → Option Files → Option Files → Type 0

@@ -1,7 +1,11 @@
 -- The lines that the program puts.
-use Rattle.std.specs.Prelude.{ℕ, List, [], ◌∷◌, ◌++◌, length, codes}
+use Rattle.std.specs.Prelude.{ℕ, List, [], ◌∷◌, ◌++◌, length, codes, Option, Some}
+use Rattle.std.specs.List.{flat_map}
 use Rattle.std.specs.Fmt.{decimal}
 use Rattle.qc_terms.specs.declared.image.Image.{Image}
+use Rattle.qc_terms.specs.declared.state.Event.{Event}
+use Rattle.qc_terms.specs.declared.state.Event.TheVariants.{Ended, Trapped}
+use Rattle.qc_terms.specs.Observation.{Observation}
 use Rattle.qc_descr.specs.declared.description.Description.{Description}
 use Rattle.qc_descr.specs.declared.faults.DescrFault.{DescrFault}
 use Rattle.qc_descr.specs.declared.faults.DescrFault.TheVariants.{Uncovered, Overlap, FieldRange, BadLayout}
@@ -12,7 +16,7 @@ use Rattle.qc_widths.specs.declared.faults.WidthFault.TheVariants as width
 use Rattle.qc_join.specs.declared.faults.JoinFault.{JoinFault}
 use Rattle.qc_join.specs.declared.faults.JoinFault.TheVariants as join
 use Rattle.qc_core.specs.declared.answer.Fault.{Fault}
-use Rattle.qc_core.specs.declared.answer.Fault.TheVariants.{TooLong, BadByte, Syntax, TooDeep, Names, Join, NotYet}
+use Rattle.qc_core.specs.declared.answer.Fault.TheVariants.{TooLong, BadByte, Syntax, TooDeep, Names, Join, BadImage, BadInput, NotYet}
 
 -- the line of an image that was compiled
 abbrev pub compiled_line : Image → List ℕ
@@ -76,4 +80,24 @@ refusal_line (Syntax file token) = line_of_two (codes "refused: Syntax") file to
 refusal_line (TooDeep file token) = line_of_two (codes "refused: TooDeep") file token
 refusal_line (Names fault) = names_line fault
 refusal_line (Join fault) = join_line fault
+refusal_line (BadImage at) = line_of_one (codes "refused: BadImage") at
+refusal_line (BadInput at) = line_of_one (codes "refused: BadInput") at
 refusal_line (NotYet form) = line_of_one (codes "refused: NotYet") form
+
+-- the line of a word that was put out
+abbrev pub word_line : ℕ → List ℕ
+word_line word = decimal word ++ 10 ∷ []
+
+-- the line of the end of a run, or of one that goes on
+abbrev pub ending_line : Option Event → List ℕ
+ending_line (Some (Ended code)) = codes "ended " ++ (decimal code ++ 10 ∷ [])
+ending_line (Some (Trapped code)) = codes "trapped " ++ (decimal code ++ 10 ∷ [])
+ending_line _ = codes "running" ++ 10 ∷ []
+
+-- the lines of words that were put out
+abbrev pub word_lines : List ℕ → List ℕ
+word_lines words = flat_map word_line words
+
+-- the lines of what a run has shown
+abbrev pub run_lines : Observation → List ℕ
+run_lines seen = word_lines seen.output ++ ending_line seen.ending

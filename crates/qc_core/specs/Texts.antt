@@ -1,6 +1,6 @@
 -- What the two texts of a description come to, which are the files 1 and 2 of a command: that of a machine, and that of
 -- its coding.
-use Rattle.std.specs.Prelude.{ℕ, ◌≡◌, ◌<◌, ◌≤◌, ◌⊎◌, List, length, None, Some, Result, Ok, Err}
+use Rattle.std.specs.Prelude.{ℕ, ◌≡◌, List, None, Some, Result, Ok, Err}
 use Rattle.qc_text.specs.declared.answers.ReadTextFault.{ReadTextFault}
 use Rattle.qc_text.specs.declared.answers.ReadTextFault.TheVariants as text
 use Rattle.qc_text.specs.TextAnswer.{IsTextAnswer}
@@ -14,9 +14,10 @@ use Rattle.qc_widths.specs.Faults.{told}
 use Rattle.qc_widths.specs.Machine.{faults_of, machine_of}
 use Rattle.qc_join.specs.declared.faults.JoinEnd.TheVariants as joined
 use Rattle.qc_join.specs.Joining.{Joins}
+use Rattle.qc_outside.specs.Files.{Files}
 use Rattle.qc_core.specs.declared.answer.Fault.{Fault}
-use Rattle.qc_core.specs.declared.answer.Fault.TheVariants.{TooLong, BadByte, Syntax, TooDeep, Names, Join}
-use Rattle.qc_core.specs.Files.{Files, file_limit, input_of}
+use Rattle.qc_core.specs.declared.answer.Fault.TheVariants.{BadByte, Syntax, TooDeep, Names, Join}
+use Rattle.qc_core.specs.Readings.{Reading, no_file, then_file}
 
 -- the answer to the bytes of a machine's text is this tree or fault
 abbrev pub IsMachineText : List ℕ → Result RawMachine ReadTextFault → Type 0
@@ -57,25 +58,20 @@ IsCodingFault machine bytes (Join fault) =
     (raw : RawCoding) × IsCodingText bytes (Ok raw) × Joins machine raw (Err (joined.Fault fault))
 IsCodingFault machine bytes _ = ⊥
 
--- the machine of the first file
-abbrev pub IsMachineOf : Files → List (List ℕ) → Machine → Type 0
-IsMachineOf files names machine =
-    (length (input_of files names 1) ≤ file_limit) × MeansMachine (input_of files names 1) machine
+-- file 1 is a machine's text
+abbrev pub machine_reading : List (List ℕ) → Reading Machine
+machine_reading names =
+    then_file names no_file 1 (λ nothing. MeansMachine) (λ nothing. IsMachineFault) (λ nothing machine. machine)
+
+-- and file 2 that of its coding
+abbrev pub description_reading : List (List ℕ) → Reading Description
+description_reading names =
+    then_file names (machine_reading names) 2 MeansDescription IsCodingFault (λ machine d. d)
 
 -- the description of the first two files
 abbrev pub IsDescriptionOf : Files → List (List ℕ) → Description → Type 0
-IsDescriptionOf files names d =
-    (machine : Machine) × IsMachineOf files names machine × (length (input_of files names 2) ≤ file_limit)
-    × MeansDescription machine (input_of files names 2) d
+IsDescriptionOf files names d = (description_reading names).Means files d
 
--- The file of this number is too long, or short enough and a text with this fault.
-abbrev pub IsFileFault : ℕ → (List ℕ → Fault → Type 0) → List ℕ → Fault → Type 0
-IsFileFault file IsFault bytes (TooLong k) = (k ≡ file) × (file_limit < length bytes)
-IsFileFault file IsFault bytes fault = (length bytes ≤ file_limit) × IsFault bytes fault
-
--- A fault of the first file, or one of the second where the first is a machine.
+-- the fault for which the first two files are refused
 abbrev pub IsCheckRefused : Files → List (List ℕ) → Fault → Type 0
-IsCheckRefused files names fault =
-    IsFileFault 1 IsMachineFault (input_of files names 1) fault
-    ⊎ ((machine : Machine) × IsMachineOf files names machine
-    × IsFileFault 2 (IsCodingFault machine) (input_of files names 2) fault)
+IsCheckRefused files names fault = (description_reading names).Refused files fault

@@ -2,7 +2,8 @@ use qc_join::JoinFault;
 use qc_widths::WidthFault;
 
 /// Why a file is refused. The files of a command are counted from 1 in the order of its words, and the tokens and bytes
-/// of a file from 0. The forms 1 to 4 are those that the files 1 to 4 of `compile` are to have.
+/// of a file from 0. The forms are those that `compile` understands so far: 3 and 4 those of its files 3 and 4, and 5 that
+/// of the description which files 1 and 2 make.
 #[derive(Clone, Copy, Debug, PartialEq, Eq)]
 pub enum Fault {
     /// The file has more than 4,194,304 bytes.
@@ -17,14 +18,18 @@ pub enum Fault {
     Names { fault: WidthFault },
     /// The text of a coding, which is file 2, makes no description of the machine.
     Join { fault: JoinFault },
-    /// The file hasn't the one form that is understood so far.
+    /// The file of an image, which is file 3 of `run`, is none for the machine, and `at` is the first wrong byte.
+    BadImage { at: usize },
+    /// The file of an input, which is file 4 of `run`, has a token at `at` that is no word of the machine, or a bad byte.
+    BadInput { at: usize },
+    /// The file hasn't the one form that is understood so far, or the description isn't that of tin32.
     NotYet { form: u32 },
 }
 
 /// What a call of the program came to.
 #[derive(Clone, Copy, Debug, PartialEq, Eq)]
 pub enum Status {
-    /// What was asked for is done: of `compile` the image is written, and of both commands the line is put.
+    /// What was asked for is done: of `compile` the image is written, and of each command the lines are put.
     Done,
     /// A file is refused, and no file was written.
     Refused { fault: Fault },
@@ -34,7 +39,7 @@ pub enum Status {
     ReadFault { file: usize },
     /// The image could not be written, or not whole.
     WriteFault,
-    /// The image is written or the description checked, and the line could not be put, or not whole.
+    /// The files are read, and of `compile` the image is written, and a line could not be put, or not whole.
     OutFault,
     /// Memory was wanting.
     NoMemory,

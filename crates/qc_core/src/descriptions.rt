@@ -1,20 +1,19 @@
 //! Descriptions from the two texts that the first files of a command are: that of a machine, and that of its coding.
-ghost use Rattle.std.specs.Prelude.{◌≡◌, ◌≤◌, length, drop, IfOk, IfErr, IfSome, MatchResult};
+ghost use Rattle.std.specs.Prelude.{◌≡◌, ◌≤◌, length, IfOk, IfErr, IfSome, MatchResult};
+ghost use Rattle.qc_command.specs.Command.{texts_of};
 ghost use Rattle.qc_descr.specs.Parts.{AreParts};
 ghost use Rattle.qc_descr.specs.Valid.{IsValid};
-ghost use Rattle.qc_core.specs.Answer.{KeepsShelfFaults};
-ghost use Rattle.qc_core.specs.Command.{texts_of};
-ghost use Rattle.qc_core.specs.Files.{file_limit, input_of, name_of};
-ghost use Rattle.qc_core.specs.Stages.{StopsAtText, StopsDescribing, StopsFor, fault_of_text};
-ghost use Rattle.qc_core.specs.Texts.{IsCodingFault, IsDescriptionOf, IsMachineFault, IsMachineOf};
-ghost use Rattle.qc_core.specs.Texts.{MeansDescription, MeansMachine};
+ghost use Rattle.qc_core.specs.Leaves.{KeepsShelfFaults};
+ghost use Rattle.qc_core.specs.Stages.{StopsFor, StopsReading, fault_of_text};
+ghost use Rattle.qc_core.specs.Texts.{IsCodingFault, IsMachineFault, MeansDescription, MeansMachine};
+ghost use Rattle.qc_core.specs.Texts.{description_reading, machine_reading};
 
 use crate::answer::{Fault, Status};
-use crate::inputs::{file_word, read_input};
-use crate::outside::Shelf;
+use crate::inputs::read_file;
 use qc_descr::Description;
 use qc_join::{JoinEnd, join};
 use qc_lrtl::read_lrtl;
+use qc_outside::Shelf;
 use qc_sled::read_sled;
 use qc_text::{ReadTextEnd, ReadTextFault};
 use qc_widths::{Machine, WidthEnd, elaborate};
@@ -38,7 +37,7 @@ fn text_fault(file: usize, fault: ReadTextFault) -> Fault
 }
 
 /// The machine of a text.
-fn machine_in(alloc: Global, bytes: &[u8]) -> Result<Machine, Status>
+pub(crate) fn machine_in(alloc: Global, bytes: &[u8]) -> Result<Machine, Status>
     ensures machine { IfOk result (MeansMachine bytes.now) }
     ensures parts { IfOk result (λ machine. AreParts machine.given machine.spaces machine.operations) }
     ensures stops { IfErr result (StopsFor (IsMachineFault bytes.now)) }
@@ -59,7 +58,11 @@ fn machine_in(alloc: Global, bytes: &[u8]) -> Result<Machine, Status>
 }
 
 /// The description of a machine and a coding's text.
-fn description_in(alloc: Global, machine: Machine, bytes: &[u8]) -> Result<Description, Status>
+pub(crate) fn description_in(
+    alloc: Global,
+    machine: Machine,
+    bytes: &[u8],
+) -> Result<Description, Status>
     requires { AreParts machine.given machine.spaces machine.operations }
     ensures description { IfOk result (MeansDescription machine bytes.now) }
     ensures valid { IfOk result IsValid }
@@ -81,70 +84,69 @@ fn description_in(alloc: Global, machine: Machine, bytes: &[u8]) -> Result<Descr
 }
 
 /// The machine of the first file.
-fn read_machine<S: Shelf>(
-    alloc: Global,
-    words: &Vec<String>,
-    shelf: &mut S,
-) -> Result<Machine, Status>
-    requires { 1 ≤ length (drop 1 (texts_of words.now.items)) }
+fn read_machine<S: Shelf>(alloc: Global, names: &[String], shelf: &mut S) -> Result<Machine, Status>
+    requires { 1 ≤ length names.now }
     ensures machine { IfOk result (λ machine. IfSome (S.files shelf.old) (λ files.
-        IsMachineOf files (drop 1 (texts_of words.now.items)) machine)) }
+        (machine_reading (texts_of names.now)).Means files machine)) }
     ensures parts { IfOk result (λ machine. AreParts machine.given machine.spaces machine.operations) }
-    ensures stops { IfErr result (StopsAtText 1 IsMachineFault (name_of (drop 1 (texts_of words.now.items)) 1)
+    ensures stops { IfErr result (StopsReading (machine_reading (texts_of names.now))
         (S.files shelf.old) (S.faults shelf.old) (S.faults shelf.new)) }
     ensures files { S.files shelf.new ≡ S.files shelf.old }
     ensures kept { MatchResult result (λ _. S.faults shelf.new ≡ S.faults shelf.old)
         (λ status. KeepsShelfFaults status (S.faults shelf.old) (S.faults shelf.new)) }
     ensures later { S.faults shelf.old ≤ S.faults shelf.new }
 {
-    let bytes = read_input(alloc, shelf, file_word(words, MACHINE), MACHINE)?;
-    machine_in(alloc, bytes.as_slice())
+    match read_file(alloc, names, shelf, MACHINE) {
+        Ok(bytes) => machine_in(alloc, bytes.as_slice()),
+        Err(status) => Err(status),
+    }
 }
 
-/// The description of the machine and the second file.
+/// The description of a machine, which the first file is, and of the second file.
 fn read_coding<S: Shelf>(
     alloc: Global,
-    words: &Vec<String>,
+    names: &[String],
     shelf: &mut S,
     machine: Machine,
 ) -> Result<Description, Status>
-    requires two { 2 ≤ length (drop 1 (texts_of words.now.items)) }
+    requires two { 2 ≤ length names.now }
     requires parts { AreParts machine.given machine.spaces machine.operations }
+    requires read { IfSome (S.files shelf.old) (λ files. (machine_reading (texts_of names.now)).Means files machine) }
     ensures description { IfOk result (λ descr. IfSome (S.files shelf.old) (λ files.
-        (length (input_of files (drop 1 (texts_of words.now.items)) 2) ≤ file_limit)
-        × MeansDescription machine (input_of files (drop 1 (texts_of words.now.items)) 2) descr)) }
+        (description_reading (texts_of names.now)).Means files descr)) }
     ensures valid { IfOk result IsValid }
-    ensures stops { IfErr result (StopsAtText 2 (IsCodingFault machine)
-        (name_of (drop 1 (texts_of words.now.items)) 2)
+    ensures stops { IfErr result (StopsReading (description_reading (texts_of names.now))
         (S.files shelf.old) (S.faults shelf.old) (S.faults shelf.new)) }
     ensures files { S.files shelf.new ≡ S.files shelf.old }
     ensures kept { MatchResult result (λ _. S.faults shelf.new ≡ S.faults shelf.old)
         (λ status. KeepsShelfFaults status (S.faults shelf.old) (S.faults shelf.new)) }
     ensures later { S.faults shelf.old ≤ S.faults shelf.new }
 {
-    let bytes = read_input(alloc, shelf, file_word(words, CODING), CODING)?;
-    description_in(alloc, machine, bytes.as_slice())
+    match read_file(alloc, names, shelf, CODING) {
+        Ok(bytes) => description_in(alloc, machine, bytes.as_slice()),
+        Err(status) => Err(status),
+    }
 }
 
 /// The description that the first two files of a command make. The second is read once the first is a machine.
 pub(crate) fn read_description<S: Shelf>(
     alloc: Global,
-    words: &Vec<String>,
+    names: &[String],
     shelf: &mut S,
 ) -> Result<Description, Status>
-    requires { 2 ≤ length (drop 1 (texts_of words.now.items)) }
+    requires { 2 ≤ length names.now }
     ensures description { IfOk result (λ descr. IfSome (S.files shelf.old) (λ files.
-        IsDescriptionOf files (drop 1 (texts_of words.now.items)) descr)) }
+        (description_reading (texts_of names.now)).Means files descr)) }
     ensures valid { IfOk result IsValid }
-    ensures stops { IfErr result (StopsDescribing (drop 1 (texts_of words.now.items))
+    ensures stops { IfErr result (StopsReading (description_reading (texts_of names.now))
         (S.files shelf.old) (S.faults shelf.old) (S.faults shelf.new)) }
     ensures files { S.files shelf.new ≡ S.files shelf.old }
     ensures kept { MatchResult result (λ _. S.faults shelf.new ≡ S.faults shelf.old)
         (λ status. KeepsShelfFaults status (S.faults shelf.old) (S.faults shelf.new)) }
     ensures later { S.faults shelf.old ≤ S.faults shelf.new }
 {
-    match read_machine(alloc, words, shelf) {
-        Ok(machine) => read_coding(alloc, words, shelf, machine),
+    match read_machine(alloc, names, shelf) {
+        Ok(machine) => read_coding(alloc, names, shelf, machine),
         Err(status) => Err(status),
     }
 }

@@ -5,7 +5,7 @@ ghost use Rattle.qc_core.specs.Lines as lines;
 use crate::answer::Fault;
 use qc_descr::{DescrFault, Description, Part};
 use qc_join::JoinFault;
-use qc_terms::Image;
+use qc_terms::{Event, Image};
 use qc_text::NoMemory;
 use qc_widths::WidthFault;
 use std::alloc::Global;
@@ -104,6 +104,26 @@ pub(crate) fn refusal_line(alloc: Global, fault: Fault) -> Result<String, NoMemo
         Fault::TooDeep { file, token } => format!(in alloc; "refused: TooDeep {file} {token}\n"),
         Fault::Names { fault } => names_line(alloc, fault),
         Fault::Join { fault } => join_line(alloc, fault),
+        Fault::BadImage { at } => format!(in alloc; "refused: BadImage {at}\n"),
+        Fault::BadInput { at } => format!(in alloc; "refused: BadInput {at}\n"),
         Fault::NotYet { form } => format!(in alloc; "refused: NotYet {form}\n"),
+    }
+}
+
+/// The line of a word that was put out.
+pub(crate) fn word_line(alloc: Global, word: u64) -> Result<String, NoMemory>
+    ensures { IfOk result (λ line. string_bytes line ≡ lines.word_line word) }
+{
+    format!(in alloc; "{word}\n")
+}
+
+/// The line of the end of a run, or of one that goes on.
+pub(crate) fn ending_line(alloc: Global, ending: Option<Event>) -> Result<String, NoMemory>
+    ensures { IfOk result (λ line. string_bytes line ≡ lines.ending_line ending) }
+{
+    match ending {
+        Some(Event::Ended { code }) => format!(in alloc; "ended {code}\n"),
+        Some(Event::Trapped { code }) => format!(in alloc; "trapped {code}\n"),
+        _ => String::from_str(alloc, "running\n"),
     }
 }

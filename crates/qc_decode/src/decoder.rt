@@ -109,4 +109,34 @@ impl Decoder {
         }
         None
     }
+
+    /// The same as `decode`, sooner where the instance is one of the instruction of this number.
+    pub fn decode_likely(
+        &self,
+        descr: &Description,
+        memory: &[u8],
+        at: u64,
+        likely: u32,
+    ) -> Option<(Instance, usize)>
+        requires valid { IsValid descr.now }
+        requires made { IsDecoderOf descr.now self.now }
+        ensures found { IfSome result (λ r.
+            EncodesAt descr.now memory.now at r.0.instruction r.0.operands.items (take r.1 (drop at memory.now))) }
+        ensures size { IfSome result (λ r. length (take r.1 (drop at memory.now)) ≡ r.1) }
+        ensures most { IfSome result (λ r. r.1 ≤ 16) }
+        ensures none { IsNone result → IsUndecodable descr.now memory.now at }
+    {
+        if let Some(instruction) = descr.instructions.as_slice().get(likely as usize) {
+            let rest = memory_from(memory, at);
+            if let Some(operands) = decode_instruction(self.alloc, descr, instruction, at, rest) {
+                let instance = Instance {
+                    instruction: likely,
+                    operands,
+                };
+                let size = coding_size(&instruction.coding);
+                return Some((instance, size));
+            }
+        }
+        self.decode(descr, memory, at)
+    }
 }

@@ -1,7 +1,7 @@
 -- Lists of claims, of tokens and of bits, piece after piece.
 use Rattle.std.specs.Prelude.{ℕ, zero, suc, ◌≡◌, ◌+◌, ◌/◌, ◌%◌, ◌<◌, ◌≤◌, Bool, true, false, ◌&&◌, nat_eq, List, [], ◌∷◌, ◌++◌, length, take, slice_set}
 use Rattle.std.proofs.Common.{refl, ap, sym, ◌∙◌, arith, append_assoc, get_or, max, ◌≢◌}
-use Rattle.std.proofs.lemmas.List.{append-nil, take_more, length-take-le, get_or_default}
+use Rattle.std.proofs.lemmas.List.{append-nil, take_more, length-take-le, get_or_default, set-get_or}
 use Rattle.qc_descr.specs.declared.coding.Bit.{Bit}
 use Rattle.qc_descr.specs.declared.coding.Bit.TheVariants.{Fixed, Piece}
 use Rattle.qc_descr.specs.declared.sketch.Claim.{Claim}
@@ -60,6 +60,15 @@ joined_set start second first place e within so_far inside =
 
     size : length (take place second) ≡ place
     size = length-take-le place second (omega (arith, within))
+
+-- a claim that stays what it is is joined
+pub joined_kept : (start second first : List Claim) (place : ℕ) (e : Claim) → place < length second →
+    first ≡ all_claims start (take place second) → place < length first →
+    both_claim (get_or first place e) (get_or second place e) ≡ get_or first place e →
+    first ≡ all_claims start (take (place + 1) second)
+joined_kept start second first place e within so_far inside kept =
+    sym (ap (slice_set first place) kept ∙ set-get_or first place e)
+    ∙ joined_set start second first place e within so_far inside
 
 -- a claim past the first ones stands behind them
 pub joined_push : (start second first : List Claim) (place : ℕ) (e : Claim) → place < length second →

@@ -1,5 +1,5 @@
 //! What patterns come to when they are put together.
-ghost use Rattle.std.specs.Prelude.{◌≡◌, ◌+◌, ◌<◌, ◌++◌, IfOk, OnOk, IsTrue, map, replicate, Some, nat_le, List, length, take};
+ghost use Rattle.std.specs.Prelude.{◌≡◌, ◌↔◌, ◌+◌, ◌<◌, ◌++◌, IfOk, OnOk, IsTrue, map, replicate, Some, nat_le, List, length, take};
 ghost use Rattle.qc_descr.specs.declared.sketch.Claim.TheVariants as claim;
 ghost use Rattle.qc_descr.specs.declared.sketch.Claim.{Claim};
 ghost use Rattle.qc_join.specs.Alternatives.{both_claim, all_claims, same_tokens, conjoined, sequenced};
@@ -11,21 +11,27 @@ use sqlite_items::Items;
 use std::alloc::{AllocError, Global};
 
 /// Two claims on one bit.
-fn both_claims(first: Claim, second: Claim) -> Claim
-    ensures { result ≡ both_claim first second }
+fn both_claims(first: &Claim, second: &Claim) -> Claim
+    ensures { result ≡ both_claim first.now second.now }
 {
     match (first, second) {
-        (Claim::Free, claim) => claim,
-        (Claim::Once { bit }, Claim::Once { bit: other }) => Claim::Twice {
-            first: bit,
-            second: other,
-        },
-        (Claim::Once { bit }, Claim::Twice { first, .. }) => Claim::Twice {
-            first: bit,
-            second: first,
-        },
-        (claim, _) => claim,
+        (Claim::Free, _) => *second,
+        (Claim::Once { bit }, Claim::Once { bit: other } | Claim::Twice { first: other, .. }) => {
+            Claim::Twice {
+                first: *bit,
+                second: *other,
+            }
+        }
+        _ => *first,
     }
+}
+
+/// Whether a claim stays what it is when a second one on its bit is joined to it. Most do: each changes twice at most,
+/// however many are joined to it.
+fn is_kept(first: &Claim, second: &Claim) -> bool
+    ensures { IsTrue result ↔ (both_claim first.now second.now ≡ first.now) }
+{
+    matches!((first, second), (Claim::Twice { .. }, _) | (_, Claim::Free))
 }
 
 /// Joins the claim on one bit to the first ones, where those before it are joined.
@@ -34,12 +40,14 @@ fn join_claim(first: &mut Items<Claim>, second: &[Claim], place: usize) -> Resul
     ensures { OnOk result ((start : List Claim) → first.old ≡ all_claims start (take place second.now)
         → first.new ≡ all_claims start (take (place + 1) second.now)) }
 {
-    let claim = second[place];
     if place < first.len() {
-        let own = first.as_slice()[place];
-        first.set(place, both_claims(own, claim));
+        let own = &first.as_slice()[place];
+        if !is_kept(own, &second[place]) {
+            let joined = both_claims(own, &second[place]);
+            first.set(place, joined);
+        }
     } else {
-        first.push(claim)?;
+        first.push(second[place])?;
     }
     Ok(())
 }

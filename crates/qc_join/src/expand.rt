@@ -225,7 +225,7 @@ pub(crate) fn expanded(
 {
     match pattern {
         Pattern::Name { name } => named_pattern(alloc, scope, name),
-        Pattern::Equal { field, value } => named_field(alloc, scope, field, value),
+        Pattern::Equal { field, value } => named_field(alloc, scope, field, value.get()),
         Pattern::Group { token: _, inner } => expanded(alloc, scope, inner.get()),
         Pattern::Conjunction { parts } => conjunction(alloc, scope, parts.as_slice()),
         Pattern::Sequence { parts } => sequence(alloc, scope, parts.as_slice()),

@@ -66,7 +66,7 @@ pub(crate) fn pattern_fault(names: &Tables<'_>, pattern: &Pattern) -> Option<Nam
         Pattern::Name { name } => use_fault(names.patterns, name),
         Pattern::Equal { field, value } => earlier(
             use_fault(names.fields, field),
-            value_fault(names, value),
+            value_fault(names, value.get()),
         ),
         Pattern::Group { inner, .. } => pattern_fault(names, inner.get()),
         Pattern::Conjunction { parts }

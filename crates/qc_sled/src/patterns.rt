@@ -1,5 +1,5 @@
 //! The reader of patterns.
-ghost use Rattle.std.specs.Prelude.{◌≡◌};
+ghost use Rattle.std.specs.Prelude.{◌≡◌, ◌∷◌, [], IfOk};
 ghost use Rattle.qc_text.specs.Gives.{Gives};
 ghost use Rattle.qc_text.specs.Reading.{reads};
 ghost use Rattle.qc_text.specs.Grammar.{nonterminal, onto};
@@ -10,7 +10,7 @@ ghost use Rattle.qc_sled.specs.Sled.{sequence, next_sequence, sequences, pattern
 use crate::syntax::{Pattern, Value};
 use qc_text::{Cursor, Ident, Kind, Stop};
 use sqlite_items::{Boxed, Items};
-use std::alloc::Global;
+use std::alloc::{AllocError, Global};
 
 #[tactic(auto, unfolding(crate::specs::Sled::bits))]
 fn read_bits(cursor: &mut Cursor<'_>, name: Ident) -> Result<Value, Stop>
@@ -47,11 +47,20 @@ fn read_after_atom(alloc: Global, cursor: &mut Cursor<'_>, name: Ident) -> Resul
 {
     if cursor.is_word(b"=") {
         cursor.word(b"=")?;
-        let value = read_value(alloc, cursor)?;
+        let value = Boxed::new(alloc, read_value(alloc, cursor)?)?;
         Ok(Pattern::Equal { field: name, value })
     } else {
         Ok(Pattern::Name { name })
     }
+}
+
+/// A list of one part, with room for no other: most lists stay that long.
+fn only(alloc: Global, part: Pattern) -> Result<Items<Pattern>, AllocError>
+    ensures { IfOk result (λ parts. parts ≡ part ∷ []) }
+{
+    let mut parts = Vec::with_capacity(alloc, 1)?;
+    parts.push(part)?;
+    Ok(Items::from_vec(parts))
 }
 
 #[cycle(patterns)]
@@ -75,8 +84,7 @@ fn read_pattern(alloc: Global, cursor: &mut Cursor<'_>) -> Result<Pattern, Stop>
 fn read_sequences(alloc: Global, cursor: &mut Cursor<'_>) -> Result<Items<Pattern>, Stop>
     ensures { Gives result cursor.old cursor.new (reads sled sequences) }
 {
-    let mut sequences = Items::new(alloc);
-    sequences.push(read_sequence(alloc, cursor)?)?;
+    let mut sequences = only(alloc, read_sequence(alloc, cursor)?)?;
     while cursor.is_word(b"|") {
         match read_next_sequence(alloc, cursor) {
             Ok(sequence) => sequences.push(sequence)?,
@@ -109,8 +117,7 @@ fn read_sequence(alloc: Global, cursor: &mut Cursor<'_>) -> Result<Pattern, Stop
 fn read_conjunctions(alloc: Global, cursor: &mut Cursor<'_>) -> Result<Items<Pattern>, Stop>
     ensures { Gives result cursor.old cursor.new (reads sled conjunctions) }
 {
-    let mut conjunctions = Items::new(alloc);
-    conjunctions.push(read_conjunction(alloc, cursor)?)?;
+    let mut conjunctions = only(alloc, read_conjunction(alloc, cursor)?)?;
     while cursor.is_word(b";") {
         match read_next_conjunction(alloc, cursor) {
             Ok(conjunction) => conjunctions.push(conjunction)?,
@@ -143,8 +150,7 @@ fn read_conjunction(alloc: Global, cursor: &mut Cursor<'_>) -> Result<Pattern, S
 fn read_atoms(alloc: Global, cursor: &mut Cursor<'_>) -> Result<Items<Pattern>, Stop>
     ensures { Gives result cursor.old cursor.new (reads sled atoms) }
 {
-    let mut atoms = Items::new(alloc);
-    atoms.push(read_atom(alloc, cursor)?)?;
+    let mut atoms = only(alloc, read_atom(alloc, cursor)?)?;
     while cursor.is_word(b"&") {
         match read_next_atom(alloc, cursor) {
             Ok(atom) => atoms.push(atom)?,

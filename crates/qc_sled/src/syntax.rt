@@ -58,7 +58,7 @@ pub enum Reach {
 #[derive(Debug, Drop)]
 pub enum Pattern {
     Name { name: Ident },
-    Equal { field: Ident, value: Value },
+    Equal { field: Ident, value: Boxed<Value> },
     Group { token: usize, inner: Boxed<Pattern> },
     Conjunction { parts: Items<Pattern> },
     Sequence { parts: Items<Pattern> },

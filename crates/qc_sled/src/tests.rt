@@ -321,15 +321,11 @@ fn only_sequence<'a>(rt: &impl Abort, pattern: &'a Pattern) -> &'a [Pattern] {
 
 /// The conjunction `a = 1 & q`, whose first token is the 5th.
 fn expect_number_and_name(rt: &impl Abort, pattern: &Pattern) {
-    let [
-        Pattern::Equal {
-            field,
-            value: Value::Number { value },
-        },
-        Pattern::Name { name },
-    ] = conjunction(rt, pattern)
-    else {
+    let [Pattern::Equal { field, value }, Pattern::Name { name }] = conjunction(rt, pattern) else {
         panic!(rt; "another conjunction");
+    };
+    let Value::Number { value } = value.get() else {
+        panic!(rt; "no number");
     };
     assert!(rt; is_ident(field, 5, b"a") && is_number(value, 7, 1) && is_ident(name, 9, b"q"));
 }
@@ -341,14 +337,11 @@ fn expect_operand(
     of_field: (usize, &[u8]),
     of_name: (usize, &[u8]),
 ) {
-    let [
-        Pattern::Equal {
-            field,
-            value: Value::Operand { name },
-        },
-    ] = conjunction(rt, pattern)
-    else {
+    let [Pattern::Equal { field, value }] = conjunction(rt, pattern) else {
         panic!(rt; "another conjunction");
+    };
+    let Value::Operand { name } = value.get() else {
+        panic!(rt; "no operand");
     };
     assert!(rt; is_ident(field, of_field.0, of_field.1));
     assert!(rt; is_ident(name, of_name.0, of_name.1));
@@ -424,14 +417,11 @@ fn expect_bits(rt: &impl Abort, pattern: &Pattern) {
     let [only] = only_sequence(rt, pattern) else {
         panic!(rt; "another sequence");
     };
-    let [
-        Pattern::Equal {
-            field,
-            value: Value::Bits { name, high, low },
-        },
-    ] = conjunction(rt, only)
-    else {
+    let [Pattern::Equal { field, value }] = conjunction(rt, only) else {
         panic!(rt; "another conjunction");
+    };
+    let Value::Bits { name, high, low } = value.get() else {
+        panic!(rt; "no bits");
     };
     assert!(rt; is_ident(field, 18, b"x") && is_ident(name, 20, b"b"));
     assert!(rt; is_number(high, 22, 15) && is_number(low, 24, 2));

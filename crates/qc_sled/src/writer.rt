@@ -47,7 +47,7 @@ fn write_pattern(alloc: Global, out: &mut Vec<u8>, pattern: &Pattern) -> Result<
         Pattern::Equal { field, value } => {
             put(out, field.text.as_slice())?;
             put(out, b"=")?;
-            write_value(alloc, out, value)
+            write_value(alloc, out, value.get())
         }
         Pattern::Group { token: _, inner } => {
             put(out, b"(")?;

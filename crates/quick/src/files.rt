@@ -2,10 +2,10 @@
 ghost use Rattle.std.specs.Prelude.{◌≡◌, ◌≢◌, ◌<◌, ◌≤◌, ◌++◌, ℕ, List, [], IfErr, IfOk, IfSome, IsErr, IsErrOf, OnOk};
 ghost use Rattle.std.specs.Prelude.{None, length, if◌then◌else◌};
 ghost use Rattle.std.specs.Io.KnownBytes.{Appends};
-ghost use Rattle.qc_core.specs.Files.{file_limit};
-ghost use Rattle.qc_core.specs.Faults.{next_count};
+ghost use Rattle.qc_outside.specs.Files.{file_limit};
+ghost use Rattle.qc_outside.specs.Faults.{next_count};
 
-use qc_core::{ReadEnd, Shelf, StoreEnd, is_too_long, wanted_after};
+use qc_outside::{ReadEnd, Shelf, StoreEnd, is_too_long, wanted_after};
 use std::alloc::Global;
 use std::fs;
 use std::io::{Read, Write};

@@ -2,7 +2,7 @@
 ghost use Rattle.std.specs.Prelude.{◌≡◌, None};
 
 use crate::files::{counted, write_whole};
-use qc_core::{Out, StoreEnd};
+use qc_outside::{Out, StoreEnd};
 use std::alloc::Global;
 use std::io;
 

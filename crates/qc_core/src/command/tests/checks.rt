@@ -33,37 +33,34 @@ type Texts = (Text, Text);
 /// Two files that are refused, the fault, and its line.
 type Refusal = (&'static [u8], &'static [u8], Fault, &'static str);
 
-/// Checks two texts, where these calls of the shelf and of the output fail, and compares what comes of it.
+/// Checks two texts, and compares what comes of it.
 fn expect_check(
     rt: &impl Abort,
     alloc: Global,
     texts: Texts,
-    failing: &[u64],
-    failing_puts: &[u64],
-    want: (Status, &str),
+    failing: Failing,
+    want: (Status, &'static str),
 ) -> Outcome {
-    let (status, line) = want;
-    let mut files = Vec::new(alloc);
-    files.push((String::from_str(alloc, "a")?, bytes(alloc, texts.0)?))?;
-    files.push((String::from_str(alloc, "b")?, bytes(alloc, texts.1)?))?;
-    let mut shelf = MemShelf::new(files, Vec::from_slice(alloc, failing)?);
-    let mut out = MemOut::new(alloc, Vec::from_slice(alloc, failing_puts)?);
-    let told = quick(alloc, &words(alloc, CHECK_WORDS)?, &mut shelf, &mut out);
-    assert_eq!(rt; told, status, "{line:?}");
-    assert!(rt; out.written() == line.as_bytes(), "{line:?}");
-    Ok(())
+    let files = [texts.0, texts.1, NO_BYTE, NO_BYTE];
+    expect(
+        rt,
+        alloc,
+        CHECK_WORDS,
+        files,
+        failing,
+        (want.0, want.1, false),
+    )
 }
 
 /// Checks that two files are refused.
 fn expect_refusal(rt: &impl Abort, alloc: Global, refusal: Refusal) -> Outcome {
     let (machine, coding, fault, line) = refusal;
-    let texts: Texts = ((machine, b"", 0, b""), (coding, b"", 0, b""));
+    let texts: Texts = (plain(machine), plain(coding));
     expect_check(
         rt,
         alloc,
         texts,
-        &[],
-        &[],
+        NO_FAULT,
         (Status::Refused { fault }, line),
     )
 }
@@ -74,9 +71,9 @@ fn refuses_what_is_no_machine(rt: HostRuntime) -> Outcome {
     let fault = Fault::Syntax { file: 1, token: 0 };
     expect_refusal(&rt, alloc, (b"", b"", fault, "refused: Syntax 1 0\n"))?;
     let no_line = (Status::Refused { fault }, "");
-    expect_check(&rt, alloc, (NO_BYTE, NO_BYTE), &[], &[1], no_line)?;
+    expect_check(&rt, alloc, (NO_BYTE, NO_BYTE), (&[], &[1]), no_line)?;
     let not_read = (Status::ReadFault { file: 1 }, "");
-    expect_check(&rt, alloc, (NO_BYTE, NO_BYTE), &[1], &[], not_read)?;
+    expect_check(&rt, alloc, (NO_BYTE, NO_BYTE), (&[1], &[]), not_read)?;
     let fault = Fault::BadByte { file: 1, at: 0 };
     expect_refusal(&rt, alloc, (b"\0", b"", fault, "refused: BadByte 1 0\n"))?;
     let fault = Fault::TooDeep {
@@ -84,21 +81,21 @@ fn refuses_what_is_no_machine(rt: HostRuntime) -> Outcome {
         token: 411,
     };
     let deep = (Status::Refused { fault }, "refused: TooDeep 1 411\n");
-    expect_check(&rt, alloc, (DEEP_MACHINE, NO_BYTE), &[], &[], deep)
+    expect_check(&rt, alloc, (DEEP_MACHINE, NO_BYTE), NO_FAULT, deep)
 }
 
 #[test]
 fn checks_a_machine(rt: HostRuntime) -> Outcome {
     let alloc = rt.alloc();
-    let texts: Texts = ((MACHINE, b"", 0, b""), (CODING, b"", 0, b""));
+    let texts: Texts = (plain(MACHINE), plain(CODING));
     let done = (Status::Done, "m: 1 instructions\n");
-    expect_check(&rt, alloc, texts, &[], &[], done)?;
+    expect_check(&rt, alloc, texts, NO_FAULT, done)?;
     let not_read = (Status::ReadFault { file: 2 }, "");
-    expect_check(&rt, alloc, texts, &[2], &[], not_read)?;
-    expect_check(&rt, alloc, texts, &[], &[1], (Status::OutFault, ""))?;
+    expect_check(&rt, alloc, texts, (&[2], &[]), not_read)?;
+    expect_check(&rt, alloc, texts, (&[], &[1]), (Status::OutFault, ""))?;
     let fault = Fault::TooLong { file: 2 };
     let too_long = (Status::Refused { fault }, "refused: TooLong 2\n");
-    expect_check(&rt, alloc, (texts.0, LONG_CODING), &[], &[], too_long)?;
+    expect_check(&rt, alloc, (texts.0, LONG_CODING), NO_FAULT, too_long)?;
     let fault = Fault::Join {
         fault: JoinFault::Descr {
             fault: DescrFault::Overlap { a: 0, b: 1 },
@@ -109,8 +106,7 @@ fn checks_a_machine(rt: HostRuntime) -> Outcome {
         &rt,
         alloc,
         (TWO_INSTRUCTIONS, TWO_CONSTRUCTORS),
-        &[],
-        &[],
+        NO_FAULT,
         overlap,
     )
 }
@@ -159,7 +155,7 @@ const WRONG_MACHINES: [Refusal; 4] = [
 ];
 
 /// Second files that make no description of a machine.
-const WRONG_CODINGS: [Refusal; 7] = [
+const WRONG_CODINGS: [Refusal; 6] = [
     (
         MACHINE,
         b"",
@@ -187,16 +183,6 @@ const WRONG_CODINGS: [Refusal; 7] = [
             fault: JoinFault::TwiceNamed { token: 11 },
         },
         "refused: TwiceNamed 11\n",
-    ),
-    (
-        b"machine tin32;",
-        b"coding tin32",
-        Fault::Join {
-            fault: JoinFault::Descr {
-                fault: DescrFault::BadLayout { part: Part::Word },
-            },
-        },
-        "refused: BadLayout Word\n",
     ),
     (
         MACHINE,
@@ -228,7 +214,14 @@ fn refuses_each_fault_of_a_description(rt: HostRuntime) -> Outcome {
     for refusal in WRONG_CODINGS {
         expect_refusal(&rt, rt.alloc(), refusal)?;
     }
-    Ok(())
+    let (fields, _) = split_at_piece(TIN32_SLED, b"\nconstructor ");
+    let fault = Fault::Join {
+        fault: JoinFault::Descr {
+            fault: DescrFault::BadLayout { part: Part::Word },
+        },
+    };
+    let line = "refused: BadLayout Word\n";
+    expect_refusal(&rt, rt.alloc(), (b"machine tin32;", fields, fault, line))
 }
 
 #[test]
@@ -240,8 +233,8 @@ fn checks_the_shipped_machines(rt: HostRuntime) -> Outcome {
         (CC16_LRTL, CC16_SLED, "cc16: 36 instructions\n"),
     ];
     for (lrtl, sled, line) in machines {
-        let texts: Texts = ((lrtl, b"", 0, b""), (sled, b"", 0, b""));
-        expect_check(&rt, rt.alloc(), texts, &[], &[], (Status::Done, line))?;
+        let texts: Texts = (plain(lrtl), plain(sled));
+        expect_check(&rt, rt.alloc(), texts, NO_FAULT, (Status::Done, line))?;
     }
     Ok(())
 }

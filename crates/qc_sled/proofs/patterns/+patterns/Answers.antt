@@ -1,4 +1,4 @@
-use Rattle.std.proofs.Common.{ap, sym, ◌∙◌, arith, [], ◌∷◌, ◌++◌}
+use Rattle.std.proofs.Common.{ap, sym, ◌∙◌, arith}
 use Rattle.qc_text.specs.Grammar.{repetition}
 use Rattle.qc_text.specs.Gives.{gives_alike}
 use Rattle.qc_text.specs.Reading.{reads}
@@ -14,10 +14,9 @@ read_any_pattern-returns t c =
 pub read_sequences-loop-alloc-init : goal.read_sequences-loop-alloc-init
 unfolding sequences
 read_sequences-loop-alloc-init t c = record {
-  read = after_first (reads sled sequence) (reads sled (repetition next_sequence)) c.push.new.self
+  read = after_first (reads sled sequence) (reads sled (repetition next_sequence)) c.in_ok-sequences.sequences
       c.in_ok-read_sequence.field-0
-      c.args.cursor.now c.read_sequence.new.cursor (c.in_ok-push.ensures.ok
-      ∙ ap (λ items. items ++ c.in_ok-read_sequence.field-0 ∷ []) c.new-sequences.ensures)
+      c.args.cursor.now c.read_sequence.new.cursor c.in_ok-sequences.ensures
       c.in_ok-read_sequence.ensures.0;
   shorter = c.in_ok-read_sequence.ensures.1;
 }
@@ -63,10 +62,9 @@ read_sequences-returns t c = (
 pub read_conjunctions-loop-alloc-init : goal.read_conjunctions-loop-alloc-init
 unfolding conjunctions
 read_conjunctions-loop-alloc-init t c = record {
-  read = after_first (reads sled conjunction) (reads sled (repetition next_conjunction)) c.push.new.self
+  read = after_first (reads sled conjunction) (reads sled (repetition next_conjunction)) c.in_ok-conjunctions.conjunctions
       c.in_ok-read_conjunction.field-0
-      c.args.cursor.now c.read_conjunction.new.cursor (c.in_ok-push.ensures.ok
-      ∙ ap (λ items. items ++ c.in_ok-read_conjunction.field-0 ∷ []) c.new-conjunctions.ensures)
+      c.args.cursor.now c.read_conjunction.new.cursor c.in_ok-conjunctions.ensures
       c.in_ok-read_conjunction.ensures.0;
   shorter = c.in_ok-read_conjunction.ensures.1;
 }
@@ -112,10 +110,9 @@ read_conjunctions-returns t c = (
 pub read_atoms-loop-alloc-init : goal.read_atoms-loop-alloc-init
 unfolding atoms
 read_atoms-loop-alloc-init t c = record {
-  read = after_first (reads sled atom) (reads sled (repetition next_atom)) c.push.new.self
+  read = after_first (reads sled atom) (reads sled (repetition next_atom)) c.in_ok-atoms.atoms
       c.in_ok-read_atom.field-0
-      c.args.cursor.now c.read_atom.new.cursor (c.in_ok-push.ensures.ok
-      ∙ ap (λ items. items ++ c.in_ok-read_atom.field-0 ∷ []) c.new-atoms.ensures)
+      c.args.cursor.now c.read_atom.new.cursor c.in_ok-atoms.ensures
       c.in_ok-read_atom.ensures.0;
   shorter = c.in_ok-read_atom.ensures.1;
 }

@@ -1,7 +1,7 @@
 -- What is read so far is what the file gave.
 use Rattle.std.proofs.Common.{◌+◌, ◌-◌, length}
 use Rattle.std.specs.Io.KnownBytes.{Consumes}
-use Rattle.qc_core.specs.Files.{file_limit}
+use Rattle.qc_outside.specs.Files.{file_limit}
 use Rattle.quick.proofs.files.read_to_limit.Given as goal
 
 abbrev pub invariant-loop-buffer : goal.invariant-loop-buffer

@@ -1,0 +1,12 @@
+pub mod Agreement
+pub mod Codes
+pub mod Decodings
+pub mod Emitted
+pub mod Fronts
+pub mod Numerals
+pub mod ProgramTexts
+pub mod Ready
+pub mod Run
+pub mod Seven
+pub mod Stages
+pub mod Tokens

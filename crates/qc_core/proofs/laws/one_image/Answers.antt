@@ -1,5 +1,0 @@
-use Rattle.qc_core.proofs.ImageFiles.{one_image}
-use Rattle.qc_core.proofs.laws.one_image.Goals as goal
-
-pub returns : goal.returns
-returns c = one_image

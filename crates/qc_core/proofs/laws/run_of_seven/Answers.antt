@@ -1,5 +1,0 @@
-use Rattle.qc_core.proofs.Seven.{run_of_seven}
-use Rattle.qc_core.proofs.laws.run_of_seven.Goals as goal
-
-pub returns : goal.returns
-returns c = run_of_seven c.one_instance.ensures

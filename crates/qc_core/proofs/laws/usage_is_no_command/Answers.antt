@@ -1,5 +1,0 @@
-use Rattle.qc_core.proofs.Exclusions.{usage_is_no_command}
-use Rattle.qc_core.proofs.laws.usage_is_no_command.Goals as goal
-
-pub returns : goal.returns
-returns c = usage_is_no_command

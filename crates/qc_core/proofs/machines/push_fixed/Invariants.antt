@@ -1,6 +1,0 @@
-use Rattle.std.proofs.Common.{◌≡◌, ◌++◌}
-use Rattle.qc_core.specs.Tin32.{fixed_bits}
-use Rattle.qc_core.proofs.machines.push_fixed.Given as goal
-
-abbrev pub invariant-loop-i : goal.invariant-loop-i
-invariant-loop-i l = l.bits ≡ l.fn.bits ++ fixed_bits l.i l.value

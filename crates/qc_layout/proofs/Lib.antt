@@ -1,0 +1,5 @@
+pub mod FirstFaults
+pub mod FoundImages
+pub mod Headers
+pub mod ImageFiles
+pub mod WrittenImages

@@ -1,0 +1,2 @@
+pub mod ImageFaults
+pub mod ImageFile

@@ -1,0 +1,4 @@
+pub mod Inputs
+pub mod Instances
+pub mod Loaded
+pub mod Steps
