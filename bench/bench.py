@@ -112,7 +112,7 @@ def compare_runs(folder):
     print(f"qemu-riscv32: the same in {least:.2f} to {most:.2f} s, {steps / most / 1e6:.0f} to {steps / least / 1e6:.0f} million a second, {memory:.0f} MB")
 
 
-SMALL_MACHINE = """machine m; word 16; byteorder little; align 2; slotbits 16; memory 0x10000; code 0x6000; data 0xC000;
+SMALL_MACHINE = """machine m; word 16; byteorder little; align 1; slotbits 16; memory 0x10000; code 0x6000; data 0xC000;
 space r 8 cells 16 bits; frame r 7; link r 6; allocatable r 0 .. 5;
 instr i(a: r) = out := a;
 """

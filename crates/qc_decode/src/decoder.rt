@@ -15,7 +15,7 @@ use std::alloc::Global;
 
 /// The operands with which the instruction has the first bytes of the memory, the first of which stands at the address,
 /// where there are such operands.
-fn decode_instruction(
+fn decode_operands(
     alloc: Global,
     descr: &Description,
     instruction: &Instruction,
@@ -37,9 +37,6 @@ fn decode_instruction(
     }
     let bytes = &memory[..size];
     let (coding, order) = (&instruction.coding, descr.facts.order);
-    if !has_fixed_bits(coding, order, bytes) {
-        return None;
-    }
     let reaches = coding.reaches.as_slice();
     let mut coded = [0; 8];
     let mut operands = SmallVec::new(alloc);
@@ -55,6 +52,34 @@ fn decode_instruction(
     }
     if has_bytes(coding, order, &coded[..reaches.len()], bytes) {
         Some(operands)
+    } else {
+        None
+    }
+}
+
+/// The same, sooner where the fixed bits tell that there are none.
+fn decode_instruction(
+    alloc: Global,
+    descr: &Description,
+    instruction: &Instruction,
+    at: u64,
+    memory: &[u8],
+) -> Option<Operands>
+    requires layout { HasLayout descr.now }
+    requires limits { IsWithinLimits descr.now }
+    requires covered { IsCovered descr.now instruction.now }
+    requires few { length instruction.now.operands ≤ 8 }
+    ensures some { IfSome result (λ operands.
+        IsCodedBy descr.now instruction.now at operands.items (take (size_of instruction.now) memory.now)) }
+    ensures none { IsNone result → (operands : List ℕ) →
+        IsCodedBy descr.now instruction.now at operands (take (size_of instruction.now) memory.now) → ⊥ }
+{
+    let size = coding_size(&instruction.coding);
+    if size > memory.len() {
+        return None;
+    }
+    if has_fixed_bits(&instruction.coding, descr.facts.order, &memory[..size]) {
+        decode_operands(alloc, descr, instruction, at, memory)
     } else {
         None
     }
@@ -128,7 +153,7 @@ impl Decoder {
     {
         if let Some(instruction) = descr.instructions.as_slice().get(likely as usize) {
             let rest = memory_from(memory, at);
-            if let Some(operands) = decode_instruction(self.alloc, descr, instruction, at, rest) {
+            if let Some(operands) = decode_operands(self.alloc, descr, instruction, at, rest) {
                 let instance = Instance {
                     instruction: likely,
                     operands,

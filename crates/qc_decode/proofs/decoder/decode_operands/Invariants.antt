@@ -5,7 +5,7 @@ use Rattle.qc_descr.specs.declared.coding.Reach.{Reach}
 use Rattle.qc_descr.specs.Description.{AreInRange, kinds_of}
 use Rattle.qc_descr.specs.Encoding.{IsCodedBy}
 use Rattle.qc_decode.proofs.Instances.{IsDecodedAs}
-use Rattle.qc_decode.proofs.decoder.decode_instruction.Given as goal
+use Rattle.qc_decode.proofs.decoder.decode_operands.Given as goal
 
 abbrev pub invariant-loop-number : goal.invariant-loop-number
 invariant-loop-number l = record {
