@@ -6,7 +6,6 @@ instruction but the four that are no part of RISC-V, at the edges of its operand
 The exit status is 1 where bytes differ.
 """
 
-import re
 import shutil
 import struct
 import subprocess
@@ -14,8 +13,10 @@ import sys
 import tempfile
 from pathlib import Path
 
+sys.path.insert(0, str(Path(__file__).resolve().parent.parent / "tools"))
+from lexer import tokens
+
 MACHINES = Path(__file__).resolve().parent.parent / "machines"
-TOKEN = re.compile(r"(?:\s|//[^\n]*|/\*.*?\*/)*(:=|=>|\.\.|0x[0-9a-fA-F]+|[0-9]+|[A-Za-z_]\w*|\S)?", re.DOTALL)
 OURS = {"op_out", "in", "op_halt", "op_trap"}
 AT = 0x40000
 
@@ -31,7 +32,7 @@ class Reader:
     """The words of a text, one after another."""
 
     def __init__(self, text):
-        self.words = [word for word in TOKEN.findall(text) if word]
+        self.words = [word for _, word in tokens(text)[:-1]]
         self.next = 0
 
     def ended(self):

@@ -1,8 +1,8 @@
-"""Compares the constants of crates/qc_machines/src with the files of the folder machines, byte for byte.
+"""Compares the constants of crates/qc_shipped/src with the files of the folder machines, byte for byte.
 
 A constant X_LRTL or X_SLED has the bytes of x.lrtl or x.sled. The data of the program's stored run has copies of some of
-these files. The exit status is 1, with a message, where a constant or a copy and its file differ, or where one of the two
-is missing.
+these files. nib16 is the machine of docs/GUIDE.md, and no constant: its texts are the blocks of the guide. The exit status
+is 1, with a message, where a constant, a copy or a block and its file differ, or where one of the two is missing.
 """
 
 import re
@@ -26,7 +26,7 @@ def escaped(match):
 def constants():
     """The bytes of each constant, by the name of its file; and what is wrong with the constants."""
     texts, wrong = {}, []
-    for path in sorted((ROOT / "crates/qc_machines/src").glob("*.rt")):
+    for path in sorted((ROOT / "crates/qc_shipped/src").glob("*.rt")):
         source = path.read_bytes()
         if re.search(rb"\bpub const\b", CONSTANT.sub(b"", source)):
             wrong.append(f"{path.name}: a public constant in a form that is not understood")
@@ -39,6 +39,15 @@ def constants():
     return texts, wrong
 
 
+def guide_blocks(begin, end):
+    """The indented blocks of docs/GUIDE.md between two headings, one after another, as one text."""
+    guide = (ROOT / "docs/GUIDE.md").read_text(encoding="utf-8")
+    lines = guide[guide.index(begin) : guide.index(end)].splitlines()
+    kept = [line[4:] if line.startswith("    ") else "" if not line else None for line in lines]
+    blocks = "\n".join("\n" if line is None else line for line in kept)
+    return re.sub(r"\n{2,}", "\n\n", blocks).strip().encode() + b"\n"
+
+
 def difference(file, constant, text):
     """The first place at which the bytes of a constant and of its file differ, or None."""
     if constant == text:
@@ -49,8 +58,10 @@ def difference(file, constant, text):
 
 
 def main():
-    files = {path.name: path.read_bytes() for path in (ROOT / "machines").iterdir() if path.suffix != ".md"}
+    files = {path.name: path.read_bytes() for path in (ROOT / "machines").iterdir() if path.suffix in (".lrtl", ".sled")}
     texts, wrong = constants()
+    texts["nib16.lrtl"] = guide_blocks("## The machine's text", "## The coding's text")
+    texts["nib16.sled"] = guide_blocks("## The coding's text", "## What is refused")
     wrong += [f"{file}: a file without a constant" for file in sorted(files.keys() - texts.keys())]
     wrong += [f"{file}: a constant without a file" for file in sorted(texts.keys() - files.keys())]
     for file in sorted(files.keys() & texts.keys()):

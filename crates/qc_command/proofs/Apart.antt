@@ -1,14 +1,14 @@
 -- Options that no word sets both.
 use Rattle.std.proofs.Common.{◌≡◌, ◌&&◌, ◌||◌, ℕ, Bool, true, false, List, [], ◌∷◌, ◌++◌, refl, sym, ap, ◌∙◌, append_assoc, nat_eq, not, eq-eqb}
+use Rattle.std.proofs.lemmas.Bool.{and_parts}
 use Rattle.std.specs.Prelude.{codes}
 use Rattle.std.specs.List.{list_all}
 use Rattle.std.proofs.lemmas.List.{append_cancel_left}
 use Rattle.qc_command.specs.Settings.{CommandOption, IsSetting}
 use Rattle.qc_command.specs.Command.{options_of}
-use Rattle.qc_command.specs.Words.{AreApart, IsApartFrom}
+use Rattle.qc_command.specs.Inner.CommandWords.{AreApart, IsApartFrom}
 use Rattle.qc_command.specs.declared.words.Command.{Command}
 use Rattle.qc_command.specs.declared.words.Command.TheVariants.{Check, Compile, Run}
-use Rattle.qc_command.proofs.Pieces.{both_true}
 
 -- the texts differ at a place that both have
 abbrev differ : List ℕ → List ℕ → Bool
@@ -41,13 +41,13 @@ not_both option other apart word value number set set_too =
 apart_from : (option : CommandOption) (others : List CommandOption) → differ_all option others ≡ true → IsApartFrom option others
 apart_from option [] own = tt
 apart_from option (other ∷ others) own =
-    let both = both_true (differ (option.name ++ codes "=") (other.name ++ codes "=")) (differ_all option others) own in
+    let both = and_parts (differ (option.name ++ codes "=") (other.name ++ codes "=")) (differ_all option others) own in
     (not_both option other both.0, apart_from option others both.1)
 
 apart_by_names : (options : List CommandOption) → have_own_names options ≡ true → AreApart options
 apart_by_names [] own = tt
 apart_by_names (option ∷ options) own =
-    let both = both_true (differ_all option options) (have_own_names options) own in
+    let both = and_parts (differ_all option options) (have_own_names options) own in
     (apart_from option options both.0, apart_by_names options both.1)
 
 -- a command's options are apart

@@ -1,5 +1,6 @@
 -- Words that stand in lists of words.
 use Rattle.std.proofs.Common.{◌≡◌, ◌⊎◌, ◌&&◌, ℕ, Bool, true, false, List, [], ◌∷◌, ◌++◌, refl, ap, ◌∙◌, inl, inr, ⊎_elim}
+use Rattle.std.proofs.lemmas.Bool.{and_parts}
 use Rattle.std.specs.List.{AllByRecursion, list_all}
 use Rattle.qc_command.specs.Command.{is_file_word}
 
@@ -60,22 +61,18 @@ some_words word (first ∷ before) after e = cc e
 abbrev pub AreNoFiles : List (List ℕ) → Type 0
 AreNoFiles words = AllByRecursion (λ word. is_file_word word ≡ false) words
 
-pub both_true : (a b : Bool) → (a && b) ≡ true → (a ≡ true) × (b ≡ true)
-both_true true b e = (refl, e)
-both_true false b e = cc e
-
 -- words that are not file words, and then file words, are split in one way
 pub one_split : (xs ys fs gs : List (List ℕ)) → AreNoFiles xs → AreNoFiles ys → list_all is_file_word fs ≡ true → list_all is_file_word gs ≡ true → xs ++ fs ≡ ys ++ gs → (xs ≡ ys) × (fs ≡ gs)
 one_split [] [] fs gs no_x no_y all all_too e = (refl, e)
 one_split [] (y ∷ ys) [] gs no_x no_y all all_too e = cc e
 one_split [] (y ∷ ys) (f ∷ fs) gs no_x no_y all all_too e =
     let same : f ≡ y = cc e in
-    let file = both_true (is_file_word f) (list_all is_file_word fs) all in
+    let file = and_parts (is_file_word f) (list_all is_file_word fs) all in
     cc (no_y.0, file.0, ap is_file_word same)
 one_split (x ∷ xs) [] fs [] no_x no_y all all_too e = cc e
 one_split (x ∷ xs) [] fs (g ∷ gs) no_x no_y all all_too e =
     let same : x ≡ g = cc e in
-    let file = both_true (is_file_word g) (list_all is_file_word gs) all_too in
+    let file = and_parts (is_file_word g) (list_all is_file_word gs) all_too in
     cc (no_x.0, file.0, ap is_file_word same)
 one_split (x ∷ xs) (y ∷ ys) fs gs no_x no_y all all_too e =
     let first : x ≡ y = cc e in

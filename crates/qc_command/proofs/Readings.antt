@@ -9,7 +9,7 @@ use Rattle.std.specs.Str.Pattern.{FindsTextPrefix, StripsPrefix}
 use Rattle.std.proofs.lemmas.List.{append_cancel_left, take_more}
 use Rattle.std.proofs.lemmas.Str.Parse.{IsNumeralModel, numerals_by_value, parse_digits, digits_value_short}
 use Rattle.qc_command.specs.Settings.{CommandOption, AreSettings, IsNumber, IsSetting}
-use Rattle.qc_command.specs.Words.{AreApart, HaveValues, IsNewSetting, IsNoNumber, IsNoSetting, IsSetTo, IsSettingCount, IsUnset, SetsNew}
+use Rattle.qc_command.specs.Inner.CommandWords.{AreApart, HaveValues, IsNewSetting, IsNoNumber, IsNoSetting, IsSetTo, IsSettingCount, IsUnset, SetsNew}
 use Rattle.qc_command.proofs.Pieces.{all_insert}
 use Rattle.qc_command.proofs.SettingLemmas.{last_is_new, one_more_setting, set_or_unset}
 

@@ -1,13 +1,14 @@
 -- Words that set options.
 use Rattle.std.proofs.Common.{◌≡◌, ℕ, true, false, List, [], ◌∷◌, ◌++◌, refl, sym, ap, subst, ◌∙◌, append_assoc, append-nil, inl, inr, ⊎_elim}
+use Rattle.std.proofs.lemmas.Bool.{and_parts}
 use Rattle.std.specs.Prelude.{Option, None, Some, codes}
 use Rattle.std.specs.List.{list_all}
 use Rattle.std.specs.Str.Parse.{digits_value}
 use Rattle.std.proofs.lemmas.List.{append_cancel_left}
 use Rattle.qc_command.specs.Settings.{CommandOption, IsSetting, AreSettings, with_defaults}
 use Rattle.qc_command.specs.Command.{is_file_word}
-use Rattle.qc_command.specs.Words.{AreApart, HasValue, HaveValues, IsApartFrom, IsNoSetting, IsSetTo, IsUnset, SetsNew}
-use Rattle.qc_command.proofs.Pieces.{AreNoFiles, all_at, all_insert, all_remove, both_true, no_words, only_word, some_words, split_twice, which_part}
+use Rattle.qc_command.specs.Inner.CommandWords.{AreApart, HasValue, HaveValues, IsApartFrom, IsNoSetting, IsSetTo, IsUnset, SetsNew}
+use Rattle.qc_command.proofs.Pieces.{AreNoFiles, all_at, all_insert, all_remove, no_words, only_word, some_words, split_twice, which_part}
 
 -- a word sets an option to one value
 pub one_value : (option : CommandOption) (word : List ℕ) (v n : ℕ) → IsSetting option word v → IsSetting option word n → v ≡ n
@@ -46,7 +47,7 @@ sets_remove [] before after other word new = new
 sets_remove (option ∷ options) before after other word (inl new) = inl (new.0, all_remove (IsNoSetting option) before after other new.1)
 sets_remove (option ∷ options) before after other word (inr new) = inr (sets_remove options before after other word new)
 
--- and also beside a word that sets another option
+-- a word that sets an option newly does so beside a word that sets another one too
 sets_insert : (first : CommandOption) (options : List CommandOption) (before after : List (List ℕ)) (other word : List ℕ) (value : ℕ) → IsApartFrom first options → IsSetting first other value → SetsNew options (before ++ after) word → SetsNew options (before ++ other ∷ after) word
 sets_insert first [] before after other word value apart set new = new
 sets_insert first (option ∷ options) before after other word value apart set (inl new) =
@@ -217,7 +218,7 @@ no_longer options given after others files values stops are (word ∷ rest) long
 no_shorter : (given after others files rest : List (List ℕ)) (word : List ℕ) → AreNoFiles given → list_all is_file_word files ≡ true → given ≡ others ++ word ∷ rest → files ≡ word ∷ (rest ++ after) → ⊥
 no_shorter given after others files rest word none all longer behind =
     let wrong : is_file_word word ≡ false = all_at (λ w. is_file_word w ≡ false) others rest word (subst (λ ws. AreNoFiles ws) longer none) in
-    let right = both_true (is_file_word word) (list_all is_file_word (rest ++ after)) (sym (ap (list_all is_file_word) behind) ∙ all) in
+    let right = and_parts (is_file_word word) (list_all is_file_word (rest ++ after)) (sym (ap (list_all is_file_word) behind) ∙ all) in
     cc (wrong, right.0)
 
 -- the words that set options are those before the first that sets no further one

@@ -8,7 +8,7 @@ use Rattle.std.proofs.lemmas.List.{length-replicate, length-take, get_or_append_
 use Rattle.std.proofs.lemmas.List.Folds.{list_all-append, list_all_at, list_all_more}
 use Rattle.qc_command.specs.Settings.{AreSettings}
 use Rattle.qc_command.specs.Command.{BeginsCommand, IsCommandLine, IsUsage, command_name, file_count, is_file_word, option_values, options_of, default_steps}
-use Rattle.qc_command.specs.Words.{AreApart, AreFiles, HaveValues, IsSameKind, IsSetBy, IsSettingCount, IsWrongFile}
+use Rattle.qc_command.specs.Inner.CommandWords.{AreApart, AreFiles, HaveValues, IsSameKind, IsSetBy, IsSettingCount, IsWrongFile}
 use Rattle.qc_command.specs.declared.words.Command.{Command}
 use Rattle.qc_command.specs.declared.words.Command.TheVariants.{Check, Compile, Run}
 use Rattle.qc_command.proofs.SettingLemmas.{HaveNumbers, Stops, numbers_are, same_given, settings_are_no_files}
@@ -27,14 +27,14 @@ options_from Check = refl
 options_from Compile = refl
 options_from (Run steps) = refl
 
--- and as many files
+-- a command that is made from its name has as many files
 files_from : (c : Command) → file_count (command_from (command_name c) []) ≡ file_count c
 unfolding command_from
 files_from Check = refl
 files_from Compile = refl
 files_from (Run steps) = refl
 
--- and is that command at the values of its options
+-- a command that is made from its name and the values of its options is that command
 pub same_from : (c : Command) → command_from (command_name c) (option_values c) ≡ c
 unfolding command_from
 same_from Check = refl

@@ -1,3 +1,3 @@
 pub mod Command
 pub mod Settings
-pub mod Words
+pub mod Inner

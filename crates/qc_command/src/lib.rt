@@ -7,6 +7,3 @@ mod words;
 
 pub use laws::{one_command, one_usage, usage_is_no_command};
 pub use words::{Command, CommandLine, command_in};
-
-#[cfg(test)]
-mod tests;

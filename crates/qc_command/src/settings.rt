@@ -4,8 +4,8 @@ ghost use Rattle.std.specs.Char.{is_ascii_digit};
 ghost use Rattle.std.specs.List.{list_all};
 ghost use Rattle.qc_command.specs.Settings.{IsNumber, IsSetting};
 ghost use Rattle.qc_command.specs.Command.{texts_of};
-ghost use Rattle.qc_command.specs.Words.{option_of, AreApart, HasValue, HaveValues, IsNewSetting, IsNoNumber};
-ghost use Rattle.qc_command.specs.Words.{IsNoSetting, IsSetTo, IsSettingCount, IsUnset, SetsNew};
+ghost use Rattle.qc_command.specs.Inner.CommandWords.{option_of, AreApart, HasValue, HaveValues, IsNewSetting, IsNoNumber};
+ghost use Rattle.qc_command.specs.Inner.CommandWords.{IsNoSetting, IsSetTo, IsSettingCount, IsUnset, SetsNew};
 
 /// An option of a command.
 #[derive(Clone, Copy)]

@@ -2,7 +2,7 @@
 ghost use Rattle.std.specs.Prelude.{◌≡◌, ◌≢◌, IfSome, IsNone, IfOk, IfErr, drop, map, string_bytes, codes};
 ghost use Rattle.qc_command.specs.Command as spec;
 ghost use Rattle.qc_command.specs.Command.{texts_of, is_file_word as is_file, IsCommandLine, IsUsage};
-ghost use Rattle.qc_command.specs.Words.{option_of, AreFiles, HaveValues, IsSameKind, IsSetBy, IsWrongFile};
+ghost use Rattle.qc_command.specs.Inner.CommandWords.{option_of, AreFiles, HaveValues, IsSameKind, IsSetBy, IsWrongFile};
 
 use crate::settings::{OptionRule, setting_count, value_of};
 

@@ -19,7 +19,8 @@ use Rattle.qc_descr.specs.Valid.{IsValid}
 use Rattle.qc_constants.specs.Constants.{HasConstants}
 use Rattle.qc_constants.proofs.Codes.{Code, code_for, code_decodes, code_has_words, code_length, code_placed, instructs_are, instructs_of, cell_there, HasWords}
 use Rattle.qc_constants.proofs.Run.{IsRunning, can_run, run_is_at, seen_at}
-use Rattle.qc_constants.proofs.Stages.{Stage, Running, next_stage, stage_shows, stage_finishes, steps_of, steps_below, steps_end, program_finishes, program_state_is, code_shows_program, shown_by}
+use Rattle.qc_terms.specs.Law.Runs.{steps_of, steps_below, steps_end}
+use Rattle.qc_constants.proofs.Stages.{Stage, Running, next_stage, stage_shows, stage_finishes, program_finishes, program_state_is, code_shows_program, shown_by}
 
 abbrev pub code_of : ConstantProgram → Code
 code_of p = code_for p.outputs p.returned

@@ -1,18 +1,19 @@
 -- Texts that begin with a text.
 use Rattle.std.proofs.Common.{◌≡◌, ◌<◌, ◌^◌, ℕ, true, false, List, [], ◌∷◌, ◌++◌, length, take, drop, refl, sym, ◌∙◌, arith, append_assoc, nat_eq, eqb-true, eq-eqb}
+use Rattle.std.proofs.lemmas.Bool.{and_parts}
 use Rattle.std.specs.Fmt.{decimal}
 use lib.Pointwise.{pointwise}
 use Rattle.std.proofs.lemmas.List.{append_cancel_left}
 use Rattle.std.proofs.lemmas.Fmt.{digits_decimal, decimal_injective}
-use Rattle.qc_constants.specs.Numeral.{begins_with_digit}
-use Rattle.qc_constants.proofs.Numerals.{own, one_run, both_true}
+use Rattle.qc_constants.specs.Inner.DigitRuns.{begins_with_digit}
+use Rattle.qc_constants.proofs.Numerals.{own, one_run}
 
 -- a text whose first bytes are the front begins with it
 pub strips : (xs front : List ℕ) → pointwise nat_eq (take (length front) xs) front ≡ true → xs ≡ front ++ drop (length front) xs
 strips xs [] e = refl
 strips [] (b ∷ front) e = cc e
 strips (x ∷ xs) (b ∷ front) e =
-    let both = both_true (nat_eq x b) (pointwise nat_eq (take (length front) xs) front) e in
+    let both = and_parts (nat_eq x b) (pointwise nat_eq (take (length front) xs) front) e in
     let first : x ≡ b = eqb-true x b both.0 in
     let rest : xs ≡ front ++ drop (length front) xs = strips xs front both.1 in
     cc (first, rest)

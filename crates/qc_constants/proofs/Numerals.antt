@@ -1,5 +1,6 @@
 -- Numbers in decimal and the runs of digits that they are.
 use Rattle.std.proofs.Common.{◌≡◌, ◌<◌, ◌≤◌, ◌+◌, ◌-◌, ◌*◌, ◌^◌, ◌&&◌, ℕ, zero, suc, Bool, true, false, List, [], ◌∷◌, ◌++◌, length, get_or, refl, sym, ap, ◌∙◌, arith, rules, nat_eq, not, eq-eqb}
+use Rattle.std.proofs.lemmas.Bool.{and_parts}
 use Rattle.std.proofs.lemmas.Bool.Decides.{nat_tests}
 use Rattle.std.specs.Char.{is_ascii_digit}
 use Rattle.std.specs.Fmt.{decimal}
@@ -8,7 +9,7 @@ use Rattle.std.specs.Option.{SomeIff}
 use Rattle.std.specs.Prelude.{Option, None, Some, IfSome, IsNone}
 use Rattle.std.proofs.lemmas.Str.Parse.{IsNumeralModel, numerals_by_fold}
 use Rattle.std.proofs.lemmas.Fmt.{digits_decimal, digits_value-decimal, decimal-digits_value, decimal_nonempty, first_decimal, decimal_digit}
-use Rattle.qc_constants.specs.Numeral.{number_on, begins_with_digit, is_canonical}
+use Rattle.qc_constants.specs.Inner.DigitRuns.{number_on, begins_with_digit, is_canonical}
 
 -- our tests of digits and our reading of them are std's
 pub own : IsNumeralModel (λ ds. list_all is_ascii_digit ds ≡ true) (number_on 0)
@@ -19,27 +20,23 @@ pub number_grows : (n : ℕ) (digits : List ℕ) → n ≤ number_on n digits
 number_grows n [] = omega arith
 number_grows n (digit ∷ digits) = omega (arith, number_grows (10 * n + (digit - 48)) digits)
 
-pub both_true : (a b : Bool) → (a && b) ≡ true → (a ≡ true) × (b ≡ true)
-both_true true b e = (refl, e)
-both_true false b e = cc e
-
 -- a text has one longest run of digits at its front
 pub one_run : (ds es x y : List ℕ) → list_all is_ascii_digit ds ≡ true → list_all is_ascii_digit es ≡ true → begins_with_digit x ≡ false → begins_with_digit y ≡ false → ds ++ x ≡ es ++ y → (ds ≡ es) × (x ≡ y)
 one_run [] [] x y p q no_x no_y e = (refl, e)
 one_run [] (c ∷ es) [] y p q no_x no_y e = cc e
 one_run [] (c ∷ es) (b ∷ x) y p q no_x no_y e =
     let same : b ≡ c = cc e in
-    let digit : is_ascii_digit c ≡ true = (both_true _ _ q).0 in
+    let digit : is_ascii_digit c ≡ true = (and_parts _ _ q).0 in
     cc (no_x, digit, ap is_ascii_digit same)
 one_run (c ∷ ds) [] x [] p q no_x no_y e = cc e
 one_run (c ∷ ds) [] x (b ∷ y) p q no_x no_y e =
     let same : c ≡ b = cc e in
-    let digit : is_ascii_digit c ≡ true = (both_true _ _ p).0 in
+    let digit : is_ascii_digit c ≡ true = (and_parts _ _ p).0 in
     cc (no_y, digit, ap is_ascii_digit same)
 one_run (c ∷ ds) (b ∷ es) x y p q no_x no_y e =
     let rest : ds ++ x ≡ es ++ y = cc e in
     let first : c ≡ b = cc e in
-    let more = one_run ds es x y (both_true _ _ p).1 (both_true _ _ q).1 no_x no_y rest in
+    let more = one_run ds es x y (and_parts _ _ p).1 (and_parts _ _ q).1 no_x no_y rest in
     let same : c ∷ ds ≡ b ∷ es = cc (first, more.0) in
     (same, more.1)
 

@@ -13,7 +13,8 @@ use Rattle.qc_descr.specs.declared.description.Description.{Description}
 use Rattle.qc_constants.specs.Constants.{HasConstants}
 use Rattle.qc_constants.proofs.Codes.{Code, Load, Put, Halt, HasWords, first_of, first_length, first_stands, instructs_of}
 use Rattle.qc_constants.proofs.Ready.{IsReady, first_outcome, ready_steps, ready_steps_so, outcome_load, outcome_put, outcome_halt}
-use Rattle.qc_constants.proofs.Stages.{Stage, Running, Done, next_stage, stage_shows, steps_of}
+use Rattle.qc_terms.specs.Law.Runs.{steps_of}
+use Rattle.qc_constants.proofs.Stages.{Stage, Running, Done, next_stage, stage_shows}
 
 -- a machine that goes on, with this code left, this word in cell 0 and this output
 pub record IsRunning (d : Description) (left : Code) (cell : ℕ) (shown : List ℕ) (p : Progress) : Type 0 where

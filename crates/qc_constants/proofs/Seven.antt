@@ -6,7 +6,7 @@ use Rattle.qc_descr.specs.Loading.{loaded_state}
 use Rattle.qc_descr.specs.Step.{OneInstance, Progress, RunsTo, observation_of}
 use Rattle.qc_constants.specs.Code.{image_of}
 use Rattle.qc_constants.specs.ConstantProgram.{IsConstantProgram, IsTextOf, program_text}
-use Rattle.qc_constants.specs.Example.{seven, seven_image, seven_shows, seven_text}
+use Rattle.qc_constants.specs.ExampleOfSeven.{seven, seven_image, seven_shows, seven_text}
 use Rattle.qc_descr.specs.Valid.{IsValid}
 use Rattle.qc_descr.specs.declared.description.Description.{Description}
 use Rattle.qc_constants.specs.Constants.{HasConstants, const_instruction, out_instruction, halt_instruction, register_instruction, first_token, empty_token, immediate_token, each_below}

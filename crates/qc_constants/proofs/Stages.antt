@@ -1,54 +1,12 @@
 -- The run of a code, stage by stage, and what it shows in the end.
-use Rattle.std.proofs.Common.{◌≡◌, ◌≤◌, ℕ, zero, suc, ◌-◌, List, [], ◌∷◌, ◌++◌, map, length, Option, None, Some, refl, ap, sym, subst, ◌∙◌, arith, append_assoc, append-nil}
+use Rattle.std.proofs.Common.{◌≡◌, ◌≤◌, ℕ, zero, suc, ◌-◌, List, [], ◌∷◌, ◌++◌, map, length, Option, None, Some, refl, ap, sym, arith, append-nil}
 use Rattle.qc_terms.specs.declared.state.Event.{Event}
 use Rattle.qc_terms.specs.declared.state.Event.TheVariants.{Ended}
-use Rattle.qc_terms.specs.Observation.{Observation, Below, SameEnding}
+use Rattle.qc_terms.specs.Observation.{Observation, Below}
+use Rattle.qc_terms.specs.Law.Runs.{Finishes, steps_of, shows, below_more_output, below_itself}
 use Rattle.qc_constants.specs.ConstantProgram.{Statement, Output, Return, ProgramState, program_step, program_state}
 use Rattle.qc_constants.specs.declared.program.ConstantProgram.{ConstantProgram}
 use Rattle.qc_constants.proofs.Codes.{Code, Load, Put, Halt, code_for, instructs_of}
-
--- A run whose steps keep what it shows in the end, and whose size falls to 0 as it gets there.
-pub record Finishes {A : Type 0} (step : A → A) (shown final : A → Observation) (size : A → ℕ) : Type 0 where
-  pub keeps : (a : A) → final (step a) ≡ final a
-  pub below : (a : A) → Below (shown a) (final a)
-  pub falls : (a : A) → size (step a) ≤ size a - 1
-  pub ends : (a : A) → size a ≡ 0 → shown a ≡ final a
-
--- after n steps
-abbrev pub steps_of : {A : Type 0} → (A → A) → A → ℕ → A
-steps_of step a zero = a
-steps_of step a (suc n) = step (steps_of step a n)
-
-steps_keep : {A : Type 0} {step : A → A} {shown final : A → Observation} {size : A → ℕ} → Finishes step shown final size → (a : A) (n : ℕ) → final (steps_of step a n) ≡ final a
-steps_keep f a zero = refl
-steps_keep f a (suc n) = f.keeps _ ∙ steps_keep f a n
-
-steps_fall : {A : Type 0} {step : A → A} {shown final : A → Observation} {size : A → ℕ} → Finishes step shown final size → (a : A) (n : ℕ) → size (steps_of step a n) ≤ size a - n
-steps_fall f a zero = omega arith
-steps_fall {step = step} f a (suc n) = omega (arith, f.falls (steps_of step a n), steps_fall f a n)
-
--- what is shown is always below what is shown in the end
-pub steps_below : {A : Type 0} {step : A → A} {shown final : A → Observation} {size : A → ℕ} → Finishes step shown final size → (a : A) (n : ℕ) → Below (shown (steps_of step a n)) (final a)
-steps_below {step = step} {shown = shown} f a n = subst (Below (shown (steps_of step a n))) (steps_keep f a n) (f.below _)
-
--- and is that after enough steps
-pub steps_end : {A : Type 0} {step : A → A} {shown final : A → Observation} {size : A → ℕ} → Finishes step shown final size → (a : A) (n : ℕ) → size a ≤ n → shown (steps_of step a n) ≡ final a
-steps_end f a n h = f.ends _ (omega (arith, steps_fall f a n)) ∙ steps_keep f a n
-
-abbrev pub shows : List ℕ → Option Event → Observation
-shows output ending = record { output = output; ending = ending }
-
--- more output is more
-below_more_output : (x : Observation) (word : ℕ) (output : List ℕ) → Below (shows (output ++ word ∷ []) None) x → Below (shows output None) x
-below_more_output x word output b =
-    record { output = (word ∷ b.output.0, b.output.1 ∙ append_assoc output (word ∷ []) b.output.0); ending = tt }
-
-same_itself : (e : Option Event) (x : Observation) → SameEnding e x x
-same_itself None x = tt
-same_itself (Some event) x = (refl, refl)
-
-below_itself : (x : Observation) → Below x x
-below_itself x = record { output = ([], sym (append-nil x.output)); ending = same_itself x.ending x }
 
 -- what statements show in the end, after an output
 abbrev pub shown_by : List Statement → List ℕ → Observation

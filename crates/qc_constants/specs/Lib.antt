@@ -2,8 +2,8 @@ pub mod Agreement
 pub mod Code
 pub mod ConstantProgram
 pub mod Constants
-pub mod Example
-pub mod Numeral
+pub mod ExampleOfSeven
+pub mod Inner
 pub use Rattle.qc_descr.specs.Cells
 pub use Rattle.qc_descr.specs.Coding
 pub use Rattle.qc_descr.specs.Description

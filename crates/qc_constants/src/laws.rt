@@ -9,7 +9,7 @@ ghost use Rattle.qc_constants.specs.Agreement.{Agrees};
 ghost use Rattle.qc_constants.specs.Code.{image_of};
 ghost use Rattle.qc_constants.specs.ConstantProgram.{IsConstantProgram, IsTextOf};
 ghost use Rattle.qc_constants.specs.Constants.{HasConstants};
-ghost use Rattle.qc_constants.specs.Example.{seven, seven_image, seven_shows, seven_text};
+ghost use Rattle.qc_constants.specs.ExampleOfSeven.{seven, seven_image, seven_shows, seven_text};
 ghost use Rattle.qc_layout.specs.ImageFile.{image_bytes};
 ghost use Rattle.qc_constants.specs.declared.program.ConstantProgram.{ConstantProgram};
 

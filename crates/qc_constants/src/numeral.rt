@@ -4,8 +4,8 @@ ghost use Rattle.std.specs.Fmt.{decimal};
 ghost use Rattle.std.specs.Option.{SomeIff};
 ghost use Rattle.std.specs.Char.{is_ascii_digit};
 ghost use Rattle.std.specs.List.{list_all};
-ghost use Rattle.qc_constants.specs.Numeral.{number_on, begins_with_digit};
-ghost use Rattle.qc_constants.specs.Numeral as spec;
+ghost use Rattle.qc_constants.specs.Inner.DigitRuns.{number_on, begins_with_digit};
+ghost use Rattle.qc_constants.specs.Inner.DigitRuns as spec;
 
 /// The longest run of digits at the front, and what follows it.
 fn split_digits(bytes: &[u8]) -> (&[u8], &[u8])

@@ -5,7 +5,7 @@ ghost use Rattle.std.specs.Fmt.{decimal};
 ghost use Rattle.qc_constants.specs.ConstantProgram.{output_text, return_text, IsTextOf, IsOptionalLineFeed, IsReturn};
 ghost use Rattle.qc_constants.specs.ConstantProgram.{StartsWithOutputs, HasManyOutputs};
 ghost use Rattle.qc_constants.specs.declared.program.ConstantProgram.{ConstantProgram as Program};
-ghost use Rattle.qc_constants.specs.Numeral.{begins_with_digit};
+ghost use Rattle.qc_constants.specs.Inner.DigitRuns.{begins_with_digit};
 
 use crate::numeral::number;
 use crate::program::ConstantProgram;

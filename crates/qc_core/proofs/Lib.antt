@@ -2,7 +2,9 @@ pub mod Checks
 pub mod Completeness
 pub mod Endings
 pub mod Exactness
-pub mod MachineRuns
+pub mod Leaving
+pub mod ProcessRuns
+pub mod Putting
 pub mod Readings
 pub mod Shipped
 pub mod TextAnswers

@@ -23,6 +23,6 @@ pub record IsCompiled (names : List (List ℕ)) (before after : Files) : Type 0 
   pub file : content_of after (name_of names 5) ≡ image_bytes image
   pub agrees : Agrees description program image
 
--- the same where the files are told; those that were told before are told after
-abbrev pub IsCompiledTold : List (List ℕ) → Option Files → Option Files → Type 0
-IsCompiledTold names before after = IfSome before (λ b. IsSomeAnd after (λ a. IsCompiled names b a))
+-- the same where the files are known; where they were known before, they are known after
+abbrev pub IsKnownCompiled : List (List ℕ) → Option Files → Option Files → Type 0
+IsKnownCompiled names before after = IfSome before (λ b. IsSomeAnd after (λ a. IsCompiled names b a))

@@ -1,54 +1,70 @@
 -- What an answer to a command leaves of files and lines.
-use Rattle.std.specs.Prelude.{ℕ, ◌≡◌, ◌≤◌, ◌⊎◌, List, ◌++◌, Option, IfSome}
+use Rattle.std.specs.Prelude.{ℕ, ◌≡◌, ◌≤◌, ◌⊎◌, List, [], ◌∷◌, Option, None, Some, IfSome}
 use Rattle.std.specs.Option.{option_map}
-use Rattle.qc_outside.specs.Faults.{Rose}
-use Rattle.qc_outside.specs.Files.{Files}
+use Rattle.std.specs.FinMap.{insert}
+use Rattle.qc_outside.specs.FaultCounts.{Rose}
+use Rattle.qc_outside.specs.Files.{Files, OthersStayKnown}
 use Rattle.qc_core.specs.declared.answer.Fault.{Fault}
 use Rattle.qc_core.specs.declared.answer.Status.{Status}
 use Rattle.qc_core.specs.declared.answer.Status.TheVariants.{Done, Refused, Usage, ReadFault, WriteFault, OutFault, NoMemory}
 use Rattle.qc_core.specs.Lines.{refusal_line}
-use Rattle.qc_core.specs.Readings.{Reading, file_of}
+use Rattle.qc_core.specs.Puts.{ArePut, FailsToPut, IsQuiet, Output, StopsPutting, output_of}
+use Rattle.qc_core.specs.CommandFiles.{Reading}
+use Rattle.qc_core.specs.Task.{IsMade, IsRefusedLate, Product, Task}
 
--- the files that are told and the count of faults of the shelf, and the bytes that are told and the count of faults
--- of the output
+-- the files of a shelf, where they are known, its count of faults, and an output
 pub record Outside : Type 0 where
   pub files : Option Files
   pub shelf_faults : ℕ
-  pub written : Option (List ℕ)
-  pub out_faults : ℕ
+  pub out : Output
 
-abbrev pub outside_of : Option Files → ℕ → Option (List ℕ) → ℕ → Outside
-outside_of files shelf_faults written out_faults =
-    record { files = files; shelf_faults = shelf_faults; written = written; out_faults = out_faults }
+abbrev pub outside_of : Option Files → ℕ → Option (List (List ℕ)) → ℕ → Outside
+outside_of files shelf_faults pieces out_faults =
+    record { files = files; shelf_faults = shelf_faults; out = output_of pieces out_faults }
 
--- a piece was put whole after the bytes so far, where they are told
-abbrev pub IsPut : List ℕ → Option (List ℕ) → Option (List ℕ) → Type 0
-IsPut piece old new = new ≡ option_map (λ bytes. bytes ++ piece) old
+-- no file was written, and nothing was put
+abbrev pub IsUntouched : Outside → Outside → Type 0
+IsUntouched old new = (new.files ≡ old.files) × IsQuiet old.out new.out
 
--- a prefix of the piece was put
-abbrev pub IsPartPut : List ℕ → Option (List ℕ) → Option (List ℕ) → Type 0
-IsPartPut piece old new = (part more : List ℕ) × (piece ≡ part ++ more) × IsPut part old new
+-- the file is written, if there is one, and all others are as before
+abbrev pub IsStored : Option (List ℕ × List ℕ) → Option Files → Option Files → Type 0
+IsStored None old new = new ≡ old
+IsStored (Some file) old new = new ≡ option_map (λ files. insert files file.0 file.1) old
 
--- a put failed, and a prefix of the piece was put
-pub record FailsToPut (piece : List ℕ) (old new : Option (List ℕ)) (before now : ℕ) : Type 0 where
-  pub rose : Rose before now
-  pub prefix : IsPartPut piece old new
+-- there is a file, of which nothing is known, and all others are as before
+abbrev pub MayBeSpoiled : Option (List ℕ × List ℕ) → Option Files → Option Files → Type 0
+MayBeSpoiled None old new = ⊥
+MayBeSpoiled (Some file) old new = OthersStayKnown file.0 old new
 
--- What an answer to a command says of the files that it reads, and what it leaves: for a refusal and a failed read, and
--- for all else as `Does` says. Nothing is written or put before all files were read.
-abbrev pub Leaves : {A : Type 0} → Reading A → (Status → Type 0) → Outside → Outside → Status → Type 0
-Leaves r Does old new (Refused fault) =
-    r.MayHave fault × IfSome old.files (λ files. r.Refused files fault) × (new.files ≡ old.files)
-    × (IsPut (refusal_line fault) old.written new.written
-    ⊎ FailsToPut (refusal_line fault) old.written new.written old.out_faults new.out_faults)
-Leaves r Does old new (ReadFault file) =
-    Rose old.shelf_faults new.shelf_faults × (1 ≤ file) × (file ≤ r.last)
-    × IfSome old.files (λ files. r.Before files file) × (new.files ≡ old.files) × (new.written ≡ old.written)
-Leaves r Does old new (Usage word) = ⊥
-Leaves r Does old new Done = Does Done
-Leaves r Does old new WriteFault = Does WriteFault
-Leaves r Does old new OutFault = Does OutFault
-Leaves r Does old new NoMemory = Does NoMemory
+-- What it comes to that a product's file is written and then its lines are put.
+abbrev pub Performs : Product → Outside → Outside → Status → Type 0
+Performs product old new Done = IsStored product.file old.files new.files × ArePut product.lines old.out new.out
+Performs product old new WriteFault =
+    Rose old.shelf_faults new.shelf_faults × MayBeSpoiled product.file old.files new.files × IsQuiet old.out new.out
+Performs product old new OutFault = IsStored product.file old.files new.files × FailsToPut product.lines old.out new.out
+Performs product old new NoMemory =
+    IsUntouched old new ⊎ (IsStored product.file old.files new.files × StopsPutting product.lines old.out new.out)
+Performs product old new _ = ⊥
+
+-- The files are refused for a fault of one of them, or of what they mean.
+abbrev pub IsRefused : Task → Option Files → Fault → Type 0
+IsRefused task files fault =
+    (task.reading.MayHave fault × IfSome files (λ fs. (file : ℕ) × task.reading.Refused fs file fault))
+    ⊎ IsRefusedLate task files fault
+
+-- What an answer to a command says of the files that it reads, and what it leaves. Nothing is written or put before all
+-- files were read.
+abbrev pub Leaves : Task → Outside → Outside → Status → Type 0
+Leaves task old new (Refused fault) =
+    IsRefused task old.files fault × (new.files ≡ old.files)
+    × (ArePut (refusal_line fault ∷ []) old.out new.out ⊎ FailsToPut (refusal_line fault ∷ []) old.out new.out)
+Leaves task old new (ReadFault file) =
+    Rose old.shelf_faults new.shelf_faults × task.reading.Reads file
+    × IfSome old.files (λ files. task.reading.Before files file) × IsUntouched old new
+Leaves task old new (Usage word) = ⊥
+Leaves task old new NoMemory =
+    IsUntouched old new ⊎ ((product : Product) × IsMade task old.files product × Performs product old new NoMemory)
+Leaves task old new status = (product : Product) × IsMade task old.files product × Performs product old new status
 
 -- No fault of the shelf was counted, unless the status tells one.
 abbrev pub KeepsShelfFaults : Status → ℕ → ℕ → Type 0
@@ -62,10 +78,18 @@ KeepsOutFaults OutFault before now = Unit {0}
 KeepsOutFaults (Refused fault) before now = Unit {0}
 KeepsOutFaults _ before now = now ≡ before
 
--- What the status is where the files are refused for this fault: that refusal, or want of memory, or the failure of the
--- read of a file that is not after the fault's, while the shelf's count of faults rose.
-abbrev pub IsRefusalStatus : Fault → ℕ → ℕ → Status → Type 0
-IsRefusalStatus fault before now (Refused told) = told ≡ fault
-IsRefusalStatus fault before now (ReadFault file) = (1 ≤ file) × (file ≤ file_of fault) × Rose before now
-IsRefusalStatus fault before now NoMemory = Unit {0}
-IsRefusalStatus fault before now _ = ⊥
+-- What the status is where the file of this number is refused for this fault: that refusal, or want of memory, or the
+-- failure of the read of a file that is not after it, while the shelf's count of faults rose.
+abbrev pub IsRefusalStatus : {A : Type 0} → Reading A → ℕ → Fault → ℕ → ℕ → Status → Type 0
+IsRefusalStatus r file fault before now (Refused other) = other ≡ fault
+IsRefusalStatus r file fault before now (ReadFault k) = r.Reads k × (k ≤ file) × Rose before now
+IsRefusalStatus r file fault before now NoMemory = Unit {0}
+IsRefusalStatus r file fault before now _ = ⊥
+
+-- What the status is where files are good, and no fault of the shelf or the output was counted.
+abbrev pub IsGoodStatus : Task → Files → Status → Type 0
+IsGoodStatus task files Done = Unit {0}
+IsGoodStatus task files NoMemory = Unit {0}
+IsGoodStatus task files (Refused fault) =
+    (input : task.Input) × task.reading.Means files input × task.MayRefuse input fault
+IsGoodStatus task files _ = ⊥

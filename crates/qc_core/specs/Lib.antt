@@ -1,11 +1,11 @@
 pub mod Answer
+pub mod CommandFiles
 pub mod Compilation
 pub mod Headline
-pub mod Known
+pub mod Inner
 pub mod Leaves
 pub mod Lines
-pub mod Readings
-pub mod RunStages
+pub mod Puts
 pub mod Runs
-pub mod Stages
+pub mod Task
 pub mod Texts

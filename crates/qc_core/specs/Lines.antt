@@ -1,6 +1,5 @@
 -- The lines that the program puts.
-use Rattle.std.specs.Prelude.{ℕ, List, [], ◌∷◌, ◌++◌, length, codes, Option, Some}
-use Rattle.std.specs.List.{flat_map}
+use Rattle.std.specs.Prelude.{ℕ, List, [], ◌∷◌, ◌++◌, length, map, codes, Option, Some}
 use Rattle.std.specs.Fmt.{decimal}
 use Rattle.qc_terms.specs.declared.image.Image.{Image}
 use Rattle.qc_terms.specs.declared.state.Event.{Event}
@@ -95,9 +94,9 @@ ending_line (Some (Trapped code)) = codes "trapped " ++ (decimal code ++ 10 ∷ 
 ending_line _ = codes "running" ++ 10 ∷ []
 
 -- the lines of words that were put out
-abbrev pub word_lines : List ℕ → List ℕ
-word_lines words = flat_map word_line words
+abbrev pub word_lines : List ℕ → List (List ℕ)
+word_lines words = map word_line words
 
--- the lines of what a run has shown
-abbrev pub run_lines : Observation → List ℕ
-run_lines seen = word_lines seen.output ++ ending_line seen.ending
+-- the lines of what a run has shown: one for each word, and then one that tells how it stands
+abbrev pub run_lines : Observation → List (List ℕ)
+run_lines seen = word_lines seen.output ++ ending_line seen.ending ∷ []

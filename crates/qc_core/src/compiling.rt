@@ -1,5 +1,5 @@
 //! The command `compile`.
-ghost use Rattle.std.specs.Prelude.{◌≡◌, ◌≤◌, ◌↔◌, length, string_bytes, IfErr, IfNone, IfOk, IfSome, IsTrue, MatchResult, OnOk};
+ghost use Rattle.std.specs.Prelude.{◌≡◌, ◌≤◌, ◌↔◌, length, string_bytes, IfErr, IfNone, IfOk, IfSome, IsTrue};
 ghost use Rattle.qc_command.specs.Command.{texts_of};
 ghost use Rattle.qc_command.specs.declared.words.Command.TheVariants as command;
 ghost use Rattle.qc_constants.specs.Code.{image_of};
@@ -8,22 +8,24 @@ ghost use Rattle.qc_constants.specs.ConstantProgram.{IsConstantProgram};
 ghost use Rattle.qc_descr.specs.Valid.{IsValid};
 ghost use Rattle.qc_descr.specs.declared.description.Description.{Description as TheDescription};
 ghost use Rattle.qc_layout.specs.ImageFile.{image_bytes};
+ghost use Rattle.qc_core.specs.Inner.Counting.{CountsFaults};
 ghost use Rattle.qc_core.specs.Answer.{CommandLeaves};
-ghost use Rattle.qc_core.specs.Compilation.{IsShipped, IsTin32, compile_reading, tables_reading, tables_text, tin32_reading};
-ghost use Rattle.qc_core.specs.Leaves.{KeepsOutFaults, KeepsShelfFaults, outside_of};
-ghost use Rattle.qc_core.specs.Stages.{Finishes, StopsReading};
+ghost use Rattle.qc_core.specs.Compilation.{IsShipped, IsTin32, compile_reading, image_and_line, tables_reading};
+ghost use Rattle.qc_core.specs.Compilation.{tables_text, tin32_reading};
+ghost use Rattle.qc_core.specs.Inner.Reading.{ReadsFiles};
+ghost use Rattle.qc_core.specs.Leaves.{Performs, outside_of};
 
 use crate::answer::{Fault, Status};
 use crate::descriptions::{description_in, machine_in, read_description};
 use crate::inputs::{file_word, read_file};
-use crate::laws::known;
-use crate::telling::{tell_image, tell_stop};
+use crate::laws::lower_laws;
+use crate::reporting::{report_image, report_stop};
 use qc_constants::{ConstantProgram, compile, has_constants, read_program};
 use qc_descr::Description;
 use qc_equal::same_description;
 use qc_layout::write_image;
-use qc_machines::{TIN32_LRTL, TIN32_SLED};
 use qc_outside::{Out, Shelf, StoreEnd};
+use qc_shipped::{TIN32_LRTL, TIN32_SLED};
 use qc_terms::Image;
 use qc_text::NoMemory;
 use std::alloc::{AllocError, Global};
@@ -46,7 +48,7 @@ fn shipped_tin32(alloc: Global) -> Result<Option<Description>, NoMemory>
     ensures some { IfOk result (λ made. IfSome made IsShipped) }
     ensures none { IfOk result (λ made. IfNone made ((d : TheDescription) → IsShipped d → ⊥)) }
 {
-    known();
+    lower_laws();
     let machine = match machine_in(alloc, TIN32_LRTL) {
         Ok(machine) => machine,
         Err(Status::Refused { .. }) => return Ok(None),
@@ -63,7 +65,7 @@ fn shipped_tin32(alloc: Global) -> Result<Option<Description>, NoMemory>
 fn is_tin32(alloc: Global, descr: &Description) -> Result<bool, NoMemory>
     ensures { IfOk result (λ is. IsTrue is ↔ IsTin32 descr.now) }
 {
-    known();
+    lower_laws();
     let shipped = match shipped_tin32(alloc)? {
         Some(shipped) => shipped,
         None => return Ok(false),
@@ -82,16 +84,10 @@ fn read_tin32<S: Shelf>(
     shelf: &mut S,
 ) -> Result<Description, Status>
     requires { 2 ≤ length names.now }
-    ensures read { IfOk result (λ descr. IfSome (S.files shelf.old) (λ files.
-        (tin32_reading (texts_of names.now)).Means files descr)) }
+    ensures reads { ReadsFiles (tin32_reading (texts_of names.now)) (λ descr. descr) result
+        (S.files shelf.old) (S.files shelf.new) (S.faults shelf.old) (S.faults shelf.new) }
     ensures valid { IfOk result IsValid }
     ensures constants { IfOk result HasConstants }
-    ensures stops { IfErr result (StopsReading (tin32_reading (texts_of names.now))
-        (S.files shelf.old) (S.faults shelf.old) (S.faults shelf.new)) }
-    ensures files { S.files shelf.new ≡ S.files shelf.old }
-    ensures kept { MatchResult result (λ _. S.faults shelf.new ≡ S.faults shelf.old)
-        (λ status. KeepsShelfFaults status (S.faults shelf.old) (S.faults shelf.new)) }
-    ensures later { S.faults shelf.old ≤ S.faults shelf.new }
 {
     let descr = match read_description(alloc, names, shelf) {
         Ok(descr) => descr,
@@ -124,14 +120,8 @@ fn read_tables<S: Shelf>(
 ) -> Result<(), Status>
     requires three { 3 ≤ length names.now }
     requires read { IfSome (S.files shelf.old) (λ files. (tin32_reading (texts_of names.now)).Means files descr.now) }
-    ensures read { OnOk result (IfSome (S.files shelf.old) (λ files.
-        (tables_reading (texts_of names.now)).Means files descr.now)) }
-    ensures stops { IfErr result (StopsReading (tables_reading (texts_of names.now))
-        (S.files shelf.old) (S.faults shelf.old) (S.faults shelf.new)) }
-    ensures files { S.files shelf.new ≡ S.files shelf.old }
-    ensures kept { MatchResult result (λ _. S.faults shelf.new ≡ S.faults shelf.old)
-        (λ status. KeepsShelfFaults status (S.faults shelf.old) (S.faults shelf.new)) }
-    ensures later { S.faults shelf.old ≤ S.faults shelf.new }
+    ensures { ReadsFiles (tables_reading (texts_of names.now)) (λ _. descr.now) result
+        (S.files shelf.old) (S.files shelf.new) (S.faults shelf.old) (S.faults shelf.new) }
 {
     let bytes = match read_file(alloc, names, shelf, TABLES) {
         Ok(bytes) => bytes,
@@ -157,15 +147,9 @@ fn read_constants<S: Shelf>(
 ) -> Result<ConstantProgram, Status>
     requires four { 4 ≤ length names.now }
     requires read { IfSome (S.files shelf.old) (λ files. (tables_reading (texts_of names.now)).Means files descr.now) }
-    ensures read { IfOk result (λ p. IfSome (S.files shelf.old) (λ files.
-        (compile_reading (texts_of names.now)).Means files (descr.now, p))) }
+    ensures reads { ReadsFiles (compile_reading (texts_of names.now)) (λ p. (descr.now, p)) result
+        (S.files shelf.old) (S.files shelf.new) (S.faults shelf.old) (S.faults shelf.new) }
     ensures program { IfOk result IsConstantProgram }
-    ensures stops { IfErr result (StopsReading (compile_reading (texts_of names.now))
-        (S.files shelf.old) (S.faults shelf.old) (S.faults shelf.new)) }
-    ensures files { S.files shelf.new ≡ S.files shelf.old }
-    ensures kept { MatchResult result (λ _. S.faults shelf.new ≡ S.faults shelf.old)
-        (λ status. KeepsShelfFaults status (S.faults shelf.old) (S.faults shelf.new)) }
-    ensures later { S.faults shelf.old ≤ S.faults shelf.new }
 {
     let bytes = match read_file(alloc, names, shelf, PROGRAM) {
         Ok(bytes) => bytes,
@@ -189,16 +173,10 @@ fn read_described<S: Shelf>(
     shelf: &mut S,
 ) -> Result<Description, Status>
     requires { 3 ≤ length names.now }
-    ensures read { IfOk result (λ descr. IfSome (S.files shelf.old) (λ files.
-        (tables_reading (texts_of names.now)).Means files descr)) }
+    ensures reads { ReadsFiles (tables_reading (texts_of names.now)) (λ descr. descr) result
+        (S.files shelf.old) (S.files shelf.new) (S.faults shelf.old) (S.faults shelf.new) }
     ensures valid { IfOk result IsValid }
     ensures constants { IfOk result HasConstants }
-    ensures stops { IfErr result (StopsReading (tables_reading (texts_of names.now))
-        (S.files shelf.old) (S.faults shelf.old) (S.faults shelf.new)) }
-    ensures files { S.files shelf.new ≡ S.files shelf.old }
-    ensures kept { MatchResult result (λ _. S.faults shelf.new ≡ S.faults shelf.old)
-        (λ status. KeepsShelfFaults status (S.faults shelf.old) (S.faults shelf.new)) }
-    ensures later { S.faults shelf.old ≤ S.faults shelf.new }
 {
     let descr = match read_tin32(alloc, names, shelf) {
         Ok(descr) => descr,
@@ -217,17 +195,11 @@ fn read_compilation<S: Shelf>(
     shelf: &mut S,
 ) -> Result<(Description, ConstantProgram), Status>
     requires { 4 ≤ length names.now }
-    ensures read { IfOk result (λ x. IfSome (S.files shelf.old) (λ files.
-        (compile_reading (texts_of names.now)).Means files (x.0, x.1))) }
+    ensures reads { ReadsFiles (compile_reading (texts_of names.now)) (λ x. (x.0, x.1)) result
+        (S.files shelf.old) (S.files shelf.new) (S.faults shelf.old) (S.faults shelf.new) }
     ensures valid { IfOk result (λ x. IsValid x.0) }
     ensures constants { IfOk result (λ x. HasConstants x.0) }
     ensures program { IfOk result (λ x. IsConstantProgram x.1) }
-    ensures stops { IfErr result (StopsReading (compile_reading (texts_of names.now))
-        (S.files shelf.old) (S.faults shelf.old) (S.faults shelf.new)) }
-    ensures files { S.files shelf.new ≡ S.files shelf.old }
-    ensures kept { MatchResult result (λ _. S.faults shelf.new ≡ S.faults shelf.old)
-        (λ status. KeepsShelfFaults status (S.faults shelf.old) (S.faults shelf.new)) }
-    ensures later { S.faults shelf.old ≤ S.faults shelf.new }
 {
     let descr = match read_described(alloc, names, shelf) {
         Ok(descr) => descr,
@@ -268,13 +240,10 @@ fn finish<S: Shelf, O: Out>(
     requires valid { IsValid descr.now }
     requires constants { HasConstants descr.now }
     requires program { IsConstantProgram program.now }
-    ensures shelf_kept { KeepsShelfFaults result (S.faults shelf.old) (S.faults shelf.new) }
-    ensures shelf_later { S.faults shelf.old ≤ S.faults shelf.new }
-    ensures out_kept { KeepsOutFaults result (O.faults out.old) (O.faults out.new) }
-    ensures out_later { O.faults out.old ≤ O.faults out.new }
-    ensures finished { Finishes descr.now program.now (string_bytes name.now)
-        (outside_of (S.files shelf.old) (S.faults shelf.old) (O.written out.old) (O.faults out.old))
-        (outside_of (S.files shelf.new) (S.faults shelf.new) (O.written out.new) (O.faults out.new))
+    ensures counts { CountsFaults result (S.faults shelf.old) (S.faults shelf.new) (O.faults out.old) (O.faults out.new) }
+    ensures performs { Performs (image_and_line (string_bytes name.now) (image_of descr.now program.now))
+        (outside_of (S.files shelf.old) (S.faults shelf.old) (O.pieces out.old) (O.faults out.old))
+        (outside_of (S.files shelf.new) (S.faults shelf.new) (O.pieces out.new) (O.faults out.new))
         result }
 {
     let (image, file) = match image_file(alloc, descr, program) {
@@ -282,13 +251,13 @@ fn finish<S: Shelf, O: Out>(
         Err(_) => return Status::NoMemory,
     };
     match shelf.write(alloc, name, file.as_slice()) {
-        Ok(()) => tell_image(alloc, out, &image),
+        Ok(()) => report_image(alloc, out, &image),
         Err(StoreEnd::Failed) => Status::WriteFault,
         Err(StoreEnd::NoMemory) => Status::NoMemory,
     }
 }
 
-/// Compiles the program of the fourth file into the fifth, or tells why a file is refused.
+/// Compiles the program of the fourth file into the fifth, or reports why a file is refused.
 pub(crate) fn compile_command<S: Shelf, O: Out>(
     alloc: Global,
     names: &[String],
@@ -296,13 +265,10 @@ pub(crate) fn compile_command<S: Shelf, O: Out>(
     out: &mut O,
 ) -> Status
     requires { length names.now ≡ 5 }
-    ensures shelf_kept { KeepsShelfFaults result (S.faults shelf.old) (S.faults shelf.new) }
-    ensures shelf_later { S.faults shelf.old ≤ S.faults shelf.new }
-    ensures out_kept { KeepsOutFaults result (O.faults out.old) (O.faults out.new) }
-    ensures out_later { O.faults out.old ≤ O.faults out.new }
+    ensures counts { CountsFaults result (S.faults shelf.old) (S.faults shelf.new) (O.faults out.old) (O.faults out.new) }
     ensures leaves { CommandLeaves command.Compile (texts_of names.now)
-        (outside_of (S.files shelf.old) (S.faults shelf.old) (O.written out.old) (O.faults out.old))
-        (outside_of (S.files shelf.new) (S.faults shelf.new) (O.written out.new) (O.faults out.new))
+        (outside_of (S.files shelf.old) (S.faults shelf.old) (O.pieces out.old) (O.faults out.old))
+        (outside_of (S.files shelf.new) (S.faults shelf.new) (O.pieces out.new) (O.faults out.new))
         result }
 {
     match read_compilation(alloc, names, shelf) {
@@ -314,6 +280,6 @@ pub(crate) fn compile_command<S: Shelf, O: Out>(
             shelf,
             out,
         ),
-        Err(status) => tell_stop(alloc, out, status),
+        Err(status) => report_stop(alloc, out, status),
     }
 }

@@ -1,21 +1,20 @@
 //! Descriptions from the two texts that the first files of a command are: that of a machine, and that of its coding.
-ghost use Rattle.std.specs.Prelude.{◌≡◌, ◌≤◌, length, IfOk, IfErr, IfSome, MatchResult};
+ghost use Rattle.std.specs.Prelude.{◌≡◌, ◌≤◌, length, IfOk, IfErr, IfSome};
 ghost use Rattle.qc_command.specs.Command.{texts_of};
 ghost use Rattle.qc_descr.specs.Parts.{AreParts};
 ghost use Rattle.qc_descr.specs.Valid.{IsValid};
-ghost use Rattle.qc_core.specs.Leaves.{KeepsShelfFaults};
-ghost use Rattle.qc_core.specs.Stages.{StopsFor, StopsReading, fault_of_text};
+ghost use Rattle.qc_core.specs.Inner.Reading.{ReadsFiles, StopsFor};
 ghost use Rattle.qc_core.specs.Texts.{IsCodingFault, IsMachineFault, MeansDescription, MeansMachine};
-ghost use Rattle.qc_core.specs.Texts.{description_reading, machine_reading};
+ghost use Rattle.qc_core.specs.Texts.{description_reading, fault_of_text, machine_reading};
 
 use crate::answer::{Fault, Status};
 use crate::inputs::read_file;
 use qc_descr::Description;
+use qc_grammar::{ReadTextEnd, ReadTextFault};
 use qc_join::{JoinEnd, join};
 use qc_lrtl::read_lrtl;
 use qc_outside::Shelf;
 use qc_sled::read_sled;
-use qc_text::{ReadTextEnd, ReadTextFault};
 use qc_widths::{Machine, WidthEnd, elaborate};
 use std::alloc::Global;
 
@@ -39,8 +38,8 @@ fn text_fault(file: usize, fault: ReadTextFault) -> Fault
 /// The machine of a text.
 pub(crate) fn machine_in(alloc: Global, bytes: &[u8]) -> Result<Machine, Status>
     ensures machine { IfOk result (MeansMachine bytes.now) }
-    ensures parts { IfOk result (λ machine. AreParts machine.given machine.spaces machine.operations) }
-    ensures stops { IfErr result (StopsFor (IsMachineFault bytes.now)) }
+    ensures parts { IfOk result (λ machine. AreParts machine.name machine.given machine.spaces machine.operations) }
+    ensures stops { IfErr result (StopsFor (IsMachineFault 1 bytes.now)) }
 {
     match read_lrtl(alloc, bytes) {
         Ok(raw) => match elaborate(alloc, &raw) {
@@ -63,10 +62,10 @@ pub(crate) fn description_in(
     machine: Machine,
     bytes: &[u8],
 ) -> Result<Description, Status>
-    requires { AreParts machine.given machine.spaces machine.operations }
+    requires { AreParts machine.name machine.given machine.spaces machine.operations }
     ensures description { IfOk result (MeansDescription machine bytes.now) }
     ensures valid { IfOk result IsValid }
-    ensures stops { IfErr result (StopsFor (IsCodingFault machine bytes.now)) }
+    ensures stops { IfErr result (StopsFor (IsCodingFault machine 2 bytes.now)) }
 {
     match read_sled(alloc, bytes) {
         Ok(raw) => match join(alloc, machine, &raw) {
@@ -86,15 +85,9 @@ pub(crate) fn description_in(
 /// The machine of the first file.
 fn read_machine<S: Shelf>(alloc: Global, names: &[String], shelf: &mut S) -> Result<Machine, Status>
     requires { 1 ≤ length names.now }
-    ensures machine { IfOk result (λ machine. IfSome (S.files shelf.old) (λ files.
-        (machine_reading (texts_of names.now)).Means files machine)) }
-    ensures parts { IfOk result (λ machine. AreParts machine.given machine.spaces machine.operations) }
-    ensures stops { IfErr result (StopsReading (machine_reading (texts_of names.now))
-        (S.files shelf.old) (S.faults shelf.old) (S.faults shelf.new)) }
-    ensures files { S.files shelf.new ≡ S.files shelf.old }
-    ensures kept { MatchResult result (λ _. S.faults shelf.new ≡ S.faults shelf.old)
-        (λ status. KeepsShelfFaults status (S.faults shelf.old) (S.faults shelf.new)) }
-    ensures later { S.faults shelf.old ≤ S.faults shelf.new }
+    ensures reads { ReadsFiles (machine_reading (texts_of names.now)) (λ machine. machine) result
+        (S.files shelf.old) (S.files shelf.new) (S.faults shelf.old) (S.faults shelf.new) }
+    ensures parts { IfOk result (λ machine. AreParts machine.name machine.given machine.spaces machine.operations) }
 {
     match read_file(alloc, names, shelf, MACHINE) {
         Ok(bytes) => machine_in(alloc, bytes.as_slice()),
@@ -110,17 +103,11 @@ fn read_coding<S: Shelf>(
     machine: Machine,
 ) -> Result<Description, Status>
     requires two { 2 ≤ length names.now }
-    requires parts { AreParts machine.given machine.spaces machine.operations }
+    requires parts { AreParts machine.name machine.given machine.spaces machine.operations }
     requires read { IfSome (S.files shelf.old) (λ files. (machine_reading (texts_of names.now)).Means files machine) }
-    ensures description { IfOk result (λ descr. IfSome (S.files shelf.old) (λ files.
-        (description_reading (texts_of names.now)).Means files descr)) }
+    ensures reads { ReadsFiles (description_reading (texts_of names.now)) (λ descr. descr) result
+        (S.files shelf.old) (S.files shelf.new) (S.faults shelf.old) (S.faults shelf.new) }
     ensures valid { IfOk result IsValid }
-    ensures stops { IfErr result (StopsReading (description_reading (texts_of names.now))
-        (S.files shelf.old) (S.faults shelf.old) (S.faults shelf.new)) }
-    ensures files { S.files shelf.new ≡ S.files shelf.old }
-    ensures kept { MatchResult result (λ _. S.faults shelf.new ≡ S.faults shelf.old)
-        (λ status. KeepsShelfFaults status (S.faults shelf.old) (S.faults shelf.new)) }
-    ensures later { S.faults shelf.old ≤ S.faults shelf.new }
 {
     match read_file(alloc, names, shelf, CODING) {
         Ok(bytes) => description_in(alloc, machine, bytes.as_slice()),
@@ -135,15 +122,9 @@ pub(crate) fn read_description<S: Shelf>(
     shelf: &mut S,
 ) -> Result<Description, Status>
     requires { 2 ≤ length names.now }
-    ensures description { IfOk result (λ descr. IfSome (S.files shelf.old) (λ files.
-        (description_reading (texts_of names.now)).Means files descr)) }
+    ensures reads { ReadsFiles (description_reading (texts_of names.now)) (λ descr. descr) result
+        (S.files shelf.old) (S.files shelf.new) (S.faults shelf.old) (S.faults shelf.new) }
     ensures valid { IfOk result IsValid }
-    ensures stops { IfErr result (StopsReading (description_reading (texts_of names.now))
-        (S.files shelf.old) (S.faults shelf.old) (S.faults shelf.new)) }
-    ensures files { S.files shelf.new ≡ S.files shelf.old }
-    ensures kept { MatchResult result (λ _. S.faults shelf.new ≡ S.faults shelf.old)
-        (λ status. KeepsShelfFaults status (S.faults shelf.old) (S.faults shelf.new)) }
-    ensures later { S.faults shelf.old ≤ S.faults shelf.new }
 {
     match read_machine(alloc, names, shelf) {
         Ok(machine) => read_coding(alloc, names, shelf, machine),

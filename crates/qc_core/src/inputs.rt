@@ -1,9 +1,8 @@
 //! The files that a command reads.
-ghost use Rattle.std.specs.Prelude.{◌≡◌, ◌≤◌, length, string_bytes, IfOk, IfErr, IfSome, MatchResult};
+ghost use Rattle.std.specs.Prelude.{◌≡◌, ◌≤◌, length, string_bytes};
 ghost use Rattle.qc_command.specs.Command.{texts_of};
-ghost use Rattle.qc_core.specs.Leaves.{KeepsShelfFaults};
-ghost use Rattle.qc_core.specs.Stages.{StopsToRead};
-ghost use Rattle.qc_outside.specs.Files.{file_limit, input_of, name_of};
+ghost use Rattle.qc_core.specs.Inner.Reading.{ReadsBytes};
+ghost use Rattle.qc_outside.specs.Files.{name_of};
 
 use crate::answer::{Fault, Status};
 use qc_outside::{ReadEnd, Shelf};
@@ -27,15 +26,8 @@ pub(crate) fn read_file<S: Shelf>(
 ) -> Result<Vec<u8>, Status>
     requires first { 1 ≤ file }
     requires last { file ≤ length names.now }
-    ensures content { IfOk result (λ bytes. IfSome (S.files shelf.old) (λ files.
-        bytes.items ≡ input_of files (texts_of names.now) file)) }
-    ensures limit { IfOk result (λ bytes. length bytes.items ≤ file_limit) }
-    ensures stops { IfErr result (StopsToRead file (name_of (texts_of names.now) file)
-        (S.files shelf.old) (S.faults shelf.old) (S.faults shelf.new)) }
-    ensures files { S.files shelf.new ≡ S.files shelf.old }
-    ensures kept { MatchResult result (λ _. S.faults shelf.new ≡ S.faults shelf.old)
-        (λ status. KeepsShelfFaults status (S.faults shelf.old) (S.faults shelf.new)) }
-    ensures later { S.faults shelf.old ≤ S.faults shelf.new }
+    ensures { ReadsBytes (texts_of names.now) file (λ bytes. bytes.items) result
+        (S.files shelf.old) (S.files shelf.new) (S.faults shelf.old) (S.faults shelf.new) }
 {
     match shelf.read(alloc, file_word(names, file)) {
         Ok(bytes) => Ok(bytes),

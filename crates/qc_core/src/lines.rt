@@ -24,9 +24,9 @@ pub(crate) fn checked_line(alloc: Global, descr: &Description) -> Result<Vec<u8>
     ensures { IfOk result (λ line. line.items ≡ lines.checked_line descr.now) }
 {
     let count = descr.instructions.len();
-    let told = format!(in alloc; ": {count} instructions\n")?;
+    let rest = format!(in alloc; ": {count} instructions\n")?;
     let mut line = Vec::from_slice(alloc, descr.name.bytes())?;
-    line.extend_from_slice(told.as_bytes())?;
+    line.extend_from_slice(rest.as_bytes())?;
     Ok(line)
 }
 

@@ -1,43 +1,30 @@
 //! The run of a machine, and its lines.
-ghost use Rattle.std.specs.Prelude.{◌≡◌, ◌≤◌, IfErr, IfOk, IsFalse, IsTrue, MatchResult, None, OnOk};
-ghost use Rattle.qc_core.specs.Leaves.{IsPut, KeepsOutFaults};
-ghost use Rattle.qc_core.specs.RunStages.{IsOver, PutsStep, PutsWords, StopsStep, StopsToPut, StopsWords, Tells};
+ghost use Rattle.std.specs.Prelude.{◌≡◌, ◌∷◌, [], IfErr, IfOk, IsFalse, IsTrue, None, OnOk};
+ghost use Rattle.qc_core.specs.Inner.Counting.{CountsOutFaults, CountsPutFaults};
+ghost use Rattle.qc_core.specs.Inner.Reading.{StopsToPut};
+ghost use Rattle.qc_core.specs.Inner.Running.{IsOver, PutsRun, PutsStep, PutsWords, StopsStep, StopsWords};
 ghost use Rattle.qc_core.specs.Lines.{word_line as line_of_word};
+ghost use Rattle.qc_core.specs.Puts.{ArePut, output_of};
+ghost use Rattle.qc_core.specs.Runs.{machine_process};
 ghost use Rattle.qc_descr.specs.Machine.{IsMachineOf};
 ghost use Rattle.qc_descr.specs.Valid.{IsValid};
 
 use crate::answer::Status;
 use crate::lines::{ending_line, word_line};
+use crate::reporting::put_line;
 use qc_descr::{Description, some_outcome, step_tells_ending};
 use qc_machine::Machine;
-use qc_outside::{Out, StoreEnd};
+use qc_outside::Out;
 use qc_terms::Event;
 use std::alloc::Global;
 
-/// Puts a line.
-fn put_line<O: Out>(alloc: Global, out: &mut O, line: &[u8]) -> Result<(), Status>
-    ensures put { OnOk result (IsPut line.now (O.written out.old) (O.written out.new)) }
-    ensures stops { IfErr result (StopsToPut line.now
-        (O.written out.old) (O.written out.new) (O.faults out.old) (O.faults out.new)) }
-    ensures kept { MatchResult result (λ _. O.faults out.new ≡ O.faults out.old)
-        (λ status. KeepsOutFaults status (O.faults out.old) (O.faults out.new)) }
-    ensures later { O.faults out.old ≤ O.faults out.new }
-{
-    match out.put(alloc, line) {
-        Ok(()) => Ok(()),
-        Err(StoreEnd::Failed) => Err(Status::OutFault),
-        Err(StoreEnd::NoMemory) => Err(Status::NoMemory),
-    }
-}
-
 /// Puts the line of a word.
 fn put_word<O: Out>(alloc: Global, out: &mut O, word: u64) -> Result<(), Status>
-    ensures put { OnOk result (IsPut (line_of_word word) (O.written out.old) (O.written out.new)) }
-    ensures stops { IfErr result (StopsToPut (line_of_word word)
-        (O.written out.old) (O.written out.new) (O.faults out.old) (O.faults out.new)) }
-    ensures kept { MatchResult result (λ _. O.faults out.new ≡ O.faults out.old)
-        (λ status. KeepsOutFaults status (O.faults out.old) (O.faults out.new)) }
-    ensures later { O.faults out.old ≤ O.faults out.new }
+    ensures put { OnOk result (ArePut (line_of_word word ∷ [])
+        (output_of (O.pieces out.old) (O.faults out.old)) (output_of (O.pieces out.new) (O.faults out.new))) }
+    ensures stops { IfErr result (StopsToPut (line_of_word word ∷ [])
+        (output_of (O.pieces out.old) (O.faults out.old)) (output_of (O.pieces out.new) (O.faults out.new))) }
+    ensures counts { CountsPutFaults result (O.faults out.old) (O.faults out.new) }
 {
     match word_line(alloc, word) {
         Ok(line) => put_line(alloc, out, line.as_bytes()),
@@ -56,16 +43,17 @@ fn put_step<O: Out>(
     requires valid { IsValid descr.now }
     requires made { IsMachineOf descr.now machine.old }
     requires running { machine.old.ending ≡ None }
-    ensures goes_on { IfOk result (λ goes_on. IsTrue goes_on → PutsStep descr.now machine.old machine.new
-        (O.written out.old) (O.written out.new) (λ ending. ending ≡ None)) }
-    ensures ends { IfOk result (λ goes_on. IsFalse goes_on → PutsStep descr.now machine.old machine.new
-        (O.written out.old) (O.written out.new) IsOver) }
-    ensures stops { IfErr result (StopsStep descr.now machine.old machine.new
-        (O.written out.old) (O.written out.new) (O.faults out.old) (O.faults out.new)) }
+    ensures goes_on { IfOk result (λ goes_on. IsTrue goes_on →
+        PutsStep (machine_process descr.now) machine.old machine.new
+        (output_of (O.pieces out.old) (O.faults out.old)) (output_of (O.pieces out.new) (O.faults out.new))
+        (λ ending. ending ≡ None)) }
+    ensures ends { IfOk result (λ goes_on. IsFalse goes_on →
+        PutsStep (machine_process descr.now) machine.old machine.new
+        (output_of (O.pieces out.old) (O.faults out.old)) (output_of (O.pieces out.new) (O.faults out.new)) IsOver) }
+    ensures stops { IfErr result (StopsStep (machine_process descr.now) machine.old machine.new
+        (output_of (O.pieces out.old) (O.faults out.old)) (output_of (O.pieces out.new) (O.faults out.new))) }
     ensures made { IsMachineOf descr.now machine.new }
-    ensures kept { MatchResult result (λ _. O.faults out.new ≡ O.faults out.old)
-        (λ status. KeepsOutFaults status (O.faults out.old) (O.faults out.new)) }
-    ensures later { O.faults out.old ≤ O.faults out.new }
+    ensures counts { CountsPutFaults result (O.faults out.old) (O.faults out.new) }
 {
     step_tells_ending();
     match machine.step(descr) {
@@ -89,13 +77,11 @@ fn put_words<O: Out>(
     requires valid { IsValid descr.now }
     requires made { IsMachineOf descr.now machine.old }
     requires running { machine.old.ending ≡ None }
-    ensures words { OnOk result (PutsWords descr.now machine.old machine.new steps
-        (O.written out.old) (O.written out.new)) }
-    ensures stops { IfErr result (StopsWords descr.now machine.old steps
-        (O.written out.old) (O.written out.new) (O.faults out.old) (O.faults out.new)) }
-    ensures kept { MatchResult result (λ _. O.faults out.new ≡ O.faults out.old)
-        (λ status. KeepsOutFaults status (O.faults out.old) (O.faults out.new)) }
-    ensures later { O.faults out.old ≤ O.faults out.new }
+    ensures words { OnOk result (PutsWords (machine_process descr.now) machine.old machine.new steps
+        (output_of (O.pieces out.old) (O.faults out.old)) (output_of (O.pieces out.new) (O.faults out.new))) }
+    ensures stops { IfErr result (StopsWords (machine_process descr.now) machine.old steps
+        (output_of (O.pieces out.old) (O.faults out.old)) (output_of (O.pieces out.new) (O.faults out.new))) }
+    ensures counts { CountsPutFaults result (O.faults out.old) (O.faults out.new) }
 {
     some_outcome();
     for _step in 0..steps {
@@ -119,10 +105,9 @@ pub(crate) fn show_run<O: Out>(
     requires valid { IsValid descr.now }
     requires made { IsMachineOf descr.now machine.old }
     requires running { machine.old.ending ≡ None }
-    ensures told { Tells descr.now machine.old steps
-        (O.written out.old) (O.written out.new) (O.faults out.old) (O.faults out.new) result }
-    ensures kept { KeepsOutFaults result (O.faults out.old) (O.faults out.new) }
-    ensures later { O.faults out.old ≤ O.faults out.new }
+    ensures run { PutsRun (machine_process descr.now) machine.old steps
+        (output_of (O.pieces out.old) (O.faults out.old)) (output_of (O.pieces out.new) (O.faults out.new)) result }
+    ensures counts { CountsOutFaults result (O.faults out.old) (O.faults out.new) }
 {
     if let Err(status) = put_words(alloc, out, descr, machine, steps) {
         return status;

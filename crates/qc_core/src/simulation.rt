@@ -1,23 +1,25 @@
 //! The command `run`.
-ghost use Rattle.std.specs.Prelude.{◌≡◌, ◌≤◌, ◌<◌, ◌^◌, All, length, IfErr, IfOk, IfSome, MatchResult};
+ghost use Rattle.std.specs.Prelude.{◌≡◌, ◌≤◌, ◌<◌, ◌^◌, All, length, IfErr, IfOk, IfSome};
 ghost use Rattle.qc_command.specs.Command.{texts_of};
 ghost use Rattle.qc_command.specs.declared.words.Command.TheVariants as command;
 ghost use Rattle.qc_descr.specs.Loading.{FitsMachine, loaded_state};
 ghost use Rattle.qc_descr.specs.Valid.{IsValid};
+ghost use Rattle.qc_core.specs.Inner.Counting.{CountsFaults, CountsOutFaults};
 ghost use Rattle.qc_core.specs.Answer.{CommandLeaves};
-ghost use Rattle.qc_core.specs.Leaves.{KeepsOutFaults, KeepsShelfFaults, outside_of};
-ghost use Rattle.qc_core.specs.RunStages.{TellsSetting};
-ghost use Rattle.qc_core.specs.Runs.{IsImageFile, IsImageFault, IsInputFault, image_reading, run_reading, setting_of};
-ghost use Rattle.qc_core.specs.Stages.{StopsFor, StopsReading};
+ghost use Rattle.qc_core.specs.Leaves.{outside_of};
+ghost use Rattle.qc_core.specs.Inner.Reading.{ReadsFiles, StopsFor};
+ghost use Rattle.qc_core.specs.Inner.Running.{PutsSetting};
+ghost use Rattle.qc_core.specs.Puts.{output_of};
+ghost use Rattle.qc_core.specs.Runs.{IsImageFault, IsImageFile, IsInputFault, image_reading, run_reading, setting_of};
 ghost use Rattle.qc_core.specs.Texts.{description_reading};
 ghost use Rattle.qc_machine.specs.InputFile.{IsInput};
 
 use crate::answer::{Fault, Status};
 use crate::descriptions::read_description;
 use crate::inputs::read_file;
+use crate::reporting::report_stop;
 use crate::running::show_run;
-use crate::telling::tell_stop;
-use qc_descr::Description;
+use qc_descr::{Description, some_outcome};
 use qc_layout::{ImageEnd, fitting_images_have_files, read_image};
 use qc_machine::{InputEnd, Machine, read_input};
 use qc_outside::{Out, Shelf};
@@ -72,15 +74,9 @@ fn read_image_file<S: Shelf>(
     requires valid { IsValid descr.now }
     requires read { IfSome (S.files shelf.old) (λ files.
         (description_reading (texts_of names.now)).Means files descr.now) }
-    ensures read { IfOk result (λ image. IfSome (S.files shelf.old) (λ files.
-        (image_reading (texts_of names.now)).Means files (descr.now, image))) }
+    ensures reads { ReadsFiles (image_reading (texts_of names.now)) (λ image. (descr.now, image)) result
+        (S.files shelf.old) (S.files shelf.new) (S.faults shelf.old) (S.faults shelf.new) }
     ensures fits { IfOk result (FitsMachine descr.now) }
-    ensures stops { IfErr result (StopsReading (image_reading (texts_of names.now))
-        (S.files shelf.old) (S.faults shelf.old) (S.faults shelf.new)) }
-    ensures files { S.files shelf.new ≡ S.files shelf.old }
-    ensures kept { MatchResult result (λ _. S.faults shelf.new ≡ S.faults shelf.old)
-        (λ status. KeepsShelfFaults status (S.faults shelf.old) (S.faults shelf.new)) }
-    ensures later { S.faults shelf.old ≤ S.faults shelf.new }
 {
     match read_file(alloc, names, shelf, IMAGE) {
         Ok(bytes) => image_in(alloc, descr, bytes.as_slice()),
@@ -99,15 +95,9 @@ fn read_input_file<S: Shelf>(
     requires four { 4 ≤ length names.now }
     requires read { IfSome (S.files shelf.old) (λ files.
         (image_reading (texts_of names.now)).Means files (descr.now, image.now)) }
-    ensures read { IfOk result (λ input. IfSome (S.files shelf.old) (λ files.
-        (run_reading (texts_of names.now)).Means files (setting_of descr.now image.now input.items))) }
+    ensures reads { ReadsFiles (run_reading (texts_of names.now)) (λ input. (setting_of descr.now image.now input.items)) result
+        (S.files shelf.old) (S.files shelf.new) (S.faults shelf.old) (S.faults shelf.new) }
     ensures words { IfOk result (λ input. All (λ word. word < 2 ^ descr.now.facts.word) input.items) }
-    ensures stops { IfErr result (StopsReading (run_reading (texts_of names.now))
-        (S.files shelf.old) (S.faults shelf.old) (S.faults shelf.new)) }
-    ensures files { S.files shelf.new ≡ S.files shelf.old }
-    ensures kept { MatchResult result (λ _. S.faults shelf.new ≡ S.faults shelf.old)
-        (λ status. KeepsShelfFaults status (S.faults shelf.old) (S.faults shelf.new)) }
-    ensures later { S.faults shelf.old ≤ S.faults shelf.new }
 {
     match read_file(alloc, names, shelf, INPUT) {
         Ok(bytes) => input_in(alloc, descr.facts.word, bytes.as_slice()),
@@ -122,16 +112,10 @@ fn read_program_image<S: Shelf>(
     shelf: &mut S,
 ) -> Result<(Description, Image), Status>
     requires { 3 ≤ length names.now }
-    ensures read { IfOk result (λ x. IfSome (S.files shelf.old) (λ files.
-        (image_reading (texts_of names.now)).Means files (x.0, x.1))) }
+    ensures reads { ReadsFiles (image_reading (texts_of names.now)) (λ x. (x.0, x.1)) result
+        (S.files shelf.old) (S.files shelf.new) (S.faults shelf.old) (S.faults shelf.new) }
     ensures valid { IfOk result (λ x. IsValid x.0) }
     ensures fits { IfOk result (λ x. FitsMachine x.0 x.1) }
-    ensures stops { IfErr result (StopsReading (image_reading (texts_of names.now))
-        (S.files shelf.old) (S.faults shelf.old) (S.faults shelf.new)) }
-    ensures files { S.files shelf.new ≡ S.files shelf.old }
-    ensures kept { MatchResult result (λ _. S.faults shelf.new ≡ S.faults shelf.old)
-        (λ status. KeepsShelfFaults status (S.faults shelf.old) (S.faults shelf.new)) }
-    ensures later { S.faults shelf.old ≤ S.faults shelf.new }
 {
     let descr = match read_description(alloc, names, shelf) {
         Ok(descr) => descr,
@@ -150,17 +134,11 @@ fn read_setting<S: Shelf>(
     shelf: &mut S,
 ) -> Result<(Description, Image, Vec<u64>), Status>
     requires { 4 ≤ length names.now }
-    ensures read { IfOk result (λ x. IfSome (S.files shelf.old) (λ files.
-        (run_reading (texts_of names.now)).Means files (setting_of x.0 x.1 x.2.items))) }
+    ensures reads { ReadsFiles (run_reading (texts_of names.now)) (λ x. (setting_of x.0 x.1 x.2.items)) result
+        (S.files shelf.old) (S.files shelf.new) (S.faults shelf.old) (S.faults shelf.new) }
     ensures valid { IfOk result (λ x. IsValid x.0) }
     ensures fits { IfOk result (λ x. FitsMachine x.0 x.1) }
     ensures words { IfOk result (λ x. All (λ word. word < 2 ^ x.0.facts.word) x.2.items) }
-    ensures stops { IfErr result (StopsReading (run_reading (texts_of names.now))
-        (S.files shelf.old) (S.faults shelf.old) (S.faults shelf.new)) }
-    ensures files { S.files shelf.new ≡ S.files shelf.old }
-    ensures kept { MatchResult result (λ _. S.faults shelf.new ≡ S.faults shelf.old)
-        (λ status. KeepsShelfFaults status (S.faults shelf.old) (S.faults shelf.new)) }
-    ensures later { S.faults shelf.old ≤ S.faults shelf.new }
 {
     let (descr, image) = match read_program_image(alloc, names, shelf) {
         Ok(both) => both,
@@ -184,18 +162,18 @@ fn run_image<O: Out>(
     requires valid { IsValid descr.now }
     requires fits { FitsMachine descr.now image.now }
     requires words { All (λ word. word < 2 ^ descr.now.facts.word) input.items }
-    ensures told { TellsSetting (setting_of descr.now image.now input.items) steps
-        (O.written out.old) (O.written out.new) (O.faults out.old) (O.faults out.new) result }
-    ensures kept { KeepsOutFaults result (O.faults out.old) (O.faults out.new) }
-    ensures later { O.faults out.old ≤ O.faults out.new }
+    ensures puts { PutsSetting (setting_of descr.now image.now input.items) steps
+        (output_of (O.pieces out.old) (O.faults out.old)) (output_of (O.pieces out.new) (O.faults out.new)) result }
+    ensures counts { CountsOutFaults result (O.faults out.old) (O.faults out.new) }
 {
+    some_outcome();
     match Machine::open(alloc, descr, image, input) {
         Ok(mut machine) => show_run(alloc, out, descr, &mut machine, steps),
         Err(_) => Status::NoMemory,
     }
 }
 
-/// Runs the image of the third file on the input of the fourth, or tells why a file is refused.
+/// Runs the image of the third file on the input of the fourth, or reports why a file is refused.
 pub(crate) fn run_command<S: Shelf, O: Out>(
     alloc: Global,
     names: &[String],
@@ -204,17 +182,14 @@ pub(crate) fn run_command<S: Shelf, O: Out>(
     out: &mut O,
 ) -> Status
     requires { length names.now ≡ 4 }
-    ensures shelf_kept { KeepsShelfFaults result (S.faults shelf.old) (S.faults shelf.new) }
-    ensures shelf_later { S.faults shelf.old ≤ S.faults shelf.new }
-    ensures out_kept { KeepsOutFaults result (O.faults out.old) (O.faults out.new) }
-    ensures out_later { O.faults out.old ≤ O.faults out.new }
+    ensures counts { CountsFaults result (S.faults shelf.old) (S.faults shelf.new) (O.faults out.old) (O.faults out.new) }
     ensures leaves { CommandLeaves (command.Run steps) (texts_of names.now)
-        (outside_of (S.files shelf.old) (S.faults shelf.old) (O.written out.old) (O.faults out.old))
-        (outside_of (S.files shelf.new) (S.faults shelf.new) (O.written out.new) (O.faults out.new))
+        (outside_of (S.files shelf.old) (S.faults shelf.old) (O.pieces out.old) (O.faults out.old))
+        (outside_of (S.files shelf.new) (S.faults shelf.new) (O.pieces out.new) (O.faults out.new))
         result }
 {
     match read_setting(alloc, names, shelf) {
         Ok((descr, image, input)) => run_image(alloc, out, &descr, &image, input, steps),
-        Err(status) => tell_stop(alloc, out, status),
+        Err(status) => report_stop(alloc, out, status),
     }
 }

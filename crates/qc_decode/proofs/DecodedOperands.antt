@@ -5,9 +5,10 @@ use Rattle.std.specs.Int.{bit_at}
 use Rattle.std.specs.List.{AllByRecursion, list_all, list_any, slice_get}
 use Rattle.std.proofs.lemmas.Bool.{and_parts, cases_Bool, cases_eq, cases_lt, eq-eqb, eqb-true, le-ltb, lt-ltb, ltb-true, ne_eqb, or_cases}
 use Rattle.std.proofs.lemmas.List.{drop_all, drop_more, get_or-map, take_all, take_more}
-use Rattle.std.proofs.Math.Nat.{lt_of_lt_of_le, pow-le-pow_right, pow-succ'}
+use Rattle.std.proofs.Math.Nat.{lt_of_lt_of_le, pow-le-pow_right}
 use Rattle.std.proofs.lemmas.Option.{get_or_from_slice_get, slice_get_within}
 use Rattle.std.proofs.lemmas.Nat.Bits.{bit_at-lt, bit_at-pow_other, bit_at-pow_same, bit_at-zero, bit_at_or, same_from_bits}
+use Rattle.qc_lists.specs.Law.Powers.{below_power}
 use Rattle.qc_terms.specs.declared.state.Order.{Order}
 use Rattle.qc_descr.specs.declared.coding.Bit.{Bit}
 use Rattle.qc_descr.specs.declared.coding.Bit.TheVariants.{Fixed, Piece}
@@ -26,7 +27,7 @@ use Rattle.qc_descr.specs.Reach.{IsReached, coded_operands, coded_value}
 use Rattle.qc_descr.specs.Valid.{HasLayout, HasSize, IsCovered, IsWithinLimits, is_within}
 use Rattle.qc_descr.specs.Law.Bits.{EachBit, no_piece_in_bytes, piece_in_bytes}
 use Rattle.qc_descr.specs.Law.Operands.{SizedAt, coded_at, in_range_at, length-in_range, sized_at, word_bits}
-use Rattle.qc_decode.specs.Decoding.{operand_in_byte, operand_in_bytes, piece_value}
+use Rattle.qc_decode.specs.Inner.OperandsOfBytes.{operand_in_byte, operand_in_bytes, piece_value}
 
 -- a bit at a place of a number
 placed_bit : (v a b : ℕ) → v < 2 → bit_at (v * 2 ^ a) b ≡ cond (nat_eq a b) v 0
@@ -101,7 +102,7 @@ higher_bits operands byte (b ∷ bits) some h =
     let half : byte / 2 ≡ byte_value operands bits = omega arith in
     half ∙ ap (byte_value operands) (sym (take_all (suc (length bits) - 1) bits (omega arith)))
 
--- the same for a byte
+-- a bit of what a byte gives to an operand
 pub byte_bit : (xs : List ℕ) (operand bit : ℕ) (bits : List Bit) → bit < 64 →
     bit_at (operand_in_byte operand bits (byte_value xs bits)) bit ≡ cond (list_any (is_piece operand bit) bits) (bit_at (slice_index xs operand) bit) 0
 byte_bit xs operand bit [] h = bit_at-zero bit
@@ -116,7 +117,7 @@ byte_bit xs operand bit (b ∷ bits) h =
     ∙ ap (max (cond (is_piece operand bit b) (bit_at (slice_index xs operand) bit) 0)) (byte_bit xs operand bit bits h)
     ∙ either (is_piece operand bit b) (list_any (is_piece operand bit) bits) (bit_at (slice_index xs operand) bit)
 
--- and for all bytes
+-- a bit of what all bytes give to an operand
 pub bytes_bit : (xs : List ℕ) (operand bit value : ℕ) (rows : List (List Bit)) → bit < 64 →
     bit_at (operand_in_bytes operand value rows (map (byte_value xs) rows)) bit
     ≡ max (bit_at value bit) (cond (list_any (list_any (is_piece operand bit)) rows) (bit_at (slice_index xs operand) bit) 0)
@@ -159,14 +160,9 @@ in_range_small d (kind.Register space) (Relative bits) size operand layout limit
 in_range_small d (kind.Register space) (Absolute bits) size operand layout limits narrow has range = absurd has
 in_range_small d (kind.Imm width) reach size operand layout limits narrow has range =
     lt_of_lt_of_le range (pow-le-pow_right (omega arith) narrow)
-in_range_small d kind.Address reach size operand layout limits narrow has range =
+in_range_small d kind.Addr reach size operand layout limits narrow has range =
     let few : d.facts.word ≤ 64 = omega (arith, word_bits d layout) in
     lt_of_lt_of_le range (pow-le-pow_right (omega arith) few)
-
--- and its bits are at most 64
-below_power : (n : ℕ) → n < 2 ^ n
-below_power zero = omega arith
-below_power (suc n) = omega (arith, below_power n, pow-succ' 2 n)
 
 small_size : (d : Description) (k : OperandKind) (reach : Reach) (size : ℕ) → HasLayout d → IsWithinLimits d → IsNarrow k → HasSize d k reach size → size ≤ 64
 small_size d (kind.Register space) Plain size layout limits narrow has =
@@ -176,9 +172,9 @@ small_size d (kind.Register space) (Absolute bits) size layout limits narrow has
 small_size d (kind.Imm width) Plain size layout limits narrow has = omega (arith, has, narrow)
 small_size d (kind.Imm width) (Relative bits) size layout limits narrow has = absurd has
 small_size d (kind.Imm width) (Absolute bits) size layout limits narrow has = absurd has
-small_size d kind.Address Plain size layout limits narrow has = absurd has
-small_size d kind.Address (Relative bits) size layout limits narrow has = omega (arith, has.1, has.2, word_bits d layout)
-small_size d kind.Address (Absolute bits) size layout limits narrow has = omega (arith, has.1, has.2, word_bits d layout)
+small_size d kind.Addr Plain size layout limits narrow has = absurd has
+small_size d kind.Addr (Relative bits) size layout limits narrow has = omega (arith, has.1, has.2, word_bits d layout)
+small_size d kind.Addr (Absolute bits) size layout limits narrow has = omega (arith, has.1, has.2, word_bits d layout)
 
 gated_there : (t : Bool) (v : ℕ) → t ≡ true → max 0 (cond t v 0) ≡ v
 gated_there true v h = omega arith
@@ -263,7 +259,7 @@ value_bit d i covered at xs bytes number value bit reach small within is coded r
           kept_read d.facts.order i.coding bytes number value bit read none ∙ sym ((coded.codable number reach is).kept bit none)
     ]
 
--- so it is that coded value
+-- the value that is read from an instance's bytes is the coded value of its operand
 value_read : (d : Description) (i : Instruction) (covered : IsCovered d i) (at : ℕ) (xs bytes : List ℕ) (number value : ℕ) (k : OperandKind) (reach : Reach) →
     HasLayout d → IsWithinLimits d → IsNarrow k → slice_get (kinds_of i) number ≡ Some k → slice_get i.coding.reaches number ≡ Some reach →
     IsCodedBy d i at xs bytes → value ≡ operand_in_bytes number 0 (memory_bytes d.facts.order i.coding) bytes →
@@ -276,7 +272,7 @@ value_read d i covered at xs bytes number value k reach layout limits narrow kin
     omega (arith, length-in_range d (kinds_of i) xs coded.in_range, slice_get_within (kinds_of i) number k kind_is) in
     sym (same_from_bits _ _ (λ bit. value_bit d i covered at xs bytes number value bit reach small within is coded read))
 
--- and an operand that is the only one with its coded value is the instance's
+-- an operand that is the only one with its coded value is the instance's
 pub only_operand : (d : Description) (i : Instruction) (covered : IsCovered d i) (at : ℕ) (xs bytes : List ℕ) (number value : ℕ) (k : OperandKind) (reach : Reach)
     (found : Option ℕ) → HasLayout d → IsWithinLimits d → IsNarrow k → slice_get (kinds_of i) number ≡ Some k →
     slice_get i.coding.reaches number ≡ Some reach → IsCodedBy d i at xs bytes →

@@ -1,5 +1,5 @@
 -- Instances in the memory.
-use Rattle.std.proofs.Common.{◌≡◌, ℕ, ◌+◌, ◌<◌, ◌≤◌, List, [], ◌∷◌, ◌++◌, length, take, drop, get_or, set, Some, sym, ◌∙◌, ap, subst, arith, inl, inr, false, length-take, length-take-le}
+use Rattle.std.proofs.Common.{None, sum, ◌≡◌, ℕ, ◌+◌, ◌<◌, ◌≤◌, List, [], ◌∷◌, ◌++◌, length, take, drop, get_or, set, Some, sym, ◌∙◌, ap, subst, arith, inl, inr, false, length-take, length-take-le}
 use Rattle.std.specs.Prelude.{slice_index}
 use Rattle.std.specs.Int.{bit_at}
 use Rattle.std.specs.List.{list_any, slice_get}
@@ -12,6 +12,7 @@ use Rattle.qc_descr.specs.declared.coding.Bit.{Bit}
 use Rattle.qc_descr.specs.declared.coding.Reach.{Reach}
 use Rattle.qc_descr.specs.declared.coding.Reach.TheVariants.{Plain}
 use Rattle.qc_descr.specs.declared.description.Description.{Description}
+use Rattle.qc_descr.specs.declared.description.Instance.{Instance}
 use Rattle.qc_descr.specs.declared.description.Instruction.{Instruction}
 use Rattle.qc_descr.specs.declared.description.OperandKind.{OperandKind}
 use Rattle.qc_descr.specs.Description.{AreInRange, kinds_of, size_of}
@@ -19,7 +20,9 @@ use Rattle.qc_descr.specs.Encoding.{IsCodable, IsCodedBy, coded_bytes}
 use Rattle.qc_descr.specs.Reach.{HasFewBits, IsReached, coded_operands, coded_value}
 use Rattle.qc_descr.specs.Step.{EncodesAt, IsUndecodable}
 use Rattle.qc_descr.specs.Valid.{HasLayout, IsCovered, IsValid}
-use Rattle.qc_descr.specs.Law.CodedBytes.{covered_at, instruction_read, length-coded_bytes}
+use Rattle.qc_descr.specs.Law.CodedBytes.{covered_at, few_bits, few_operands, instruction_read, length-coded_bytes}
+use Rattle.qc_decode.specs.Decoder.{DecodesAt}
+use Rattle.qc_decode.specs.Inner.OperandsAt.{IsInstructionOf}
 use Rattle.qc_descr.specs.Law.Operands.{SizedAt, coded_at, has_few_bits, kind_read, length-coded, length-in_range, length-reaches, sized_at}
 
 -- the instruction's bytes at the front of a memory are as many as it has
@@ -59,12 +62,12 @@ pub read_all : (d : Description) (kinds : List OperandKind) (xs ys : List ℕ) (
     ys ≡ take number xs → ys ≡ xs
 read_all d kinds xs ys number range h e = e ∙ take_all number xs (omega (arith, length-in_range d kinds xs range))
 
--- an instruction that was read is covered
-pub covered_item : (d : Description) (xs : List Instruction) (number : ℕ) (i : Instruction) → IsValid d → xs ≡ d.instructions → number < length xs →
-    i ≡ get_or xs number i → (slice_get d.instructions number ≡ Some i) × IsCovered d i
-covered_item d xs number i valid e within read =
+-- an instruction that was read is one of the description
+pub kept_item : (d : Description) (xs : List Instruction) (number : ℕ) (i : Instruction) → IsValid d → xs ≡ d.instructions → number < length xs →
+    i ≡ get_or xs number i → (slice_get d.instructions number ≡ Some i) × IsInstructionOf d i
+kept_item d xs number i valid e within read =
     let is : slice_get d.instructions number ≡ Some i = instruction_read d xs number i e within read in
-    (is, covered_at d number i valid is)
+    (is, record { layout = valid.layout; limits = valid.limits; covered = covered_at d number i valid is; few = few_operands d number i valid is })
 
 -- no instance of the instructions so far stands at the address, nor one of the next
 pub none_more : (d : Description) (i : Instruction) (memory : List ℕ) (at number : ℕ) → IsCovered d i → slice_get d.instructions number ≡ Some i →
@@ -170,3 +173,23 @@ coded_by d i at n items coded bytes range e count room each is = record {
       (each number reach (omega (arith, slice_get_within i.coding.reaches number reach there)) there).codable;
   bytes_are = is ∙ ap (coded_bytes d.facts.order i.coding) (coded_front i.coding.bits i.coding.reaches at n items coded e count room each);
 }
+
+-- what is answered where an instruction of the description is coded by the bytes at the address
+pub decoded : (d : Description) (i : Instruction) (memory rest : List ℕ) (at size : ℕ) (instance : Instance) →
+    slice_get d.instructions instance.instruction ≡ Some i → IsCovered d i → rest ≡ drop at memory → size ≡ size_of i →
+    IsCodedBy d i at instance.operands.items (take (size_of i) rest) → DecodesAt d memory at (Some (instance, size))
+decoded d i memory rest at size instance is covered e sized coded =
+    let here : IsCodedBy d i at instance.operands.items (take (size_of i) (drop at memory)) =
+    subst (λ m. IsCodedBy d i at instance.operands.items (take (size_of i) m)) e coded in
+    let within : size_of i ≤ length (drop at memory) = coded_length d i at instance.operands.items (drop at memory) covered here in
+    let few : sum i.coding.tokens ≤ 128 = few_bits d i covered in
+    record {
+      found = encodes_at d i memory at instance.instruction size instance.operands.items is sized here;
+      size = omega (arith, length-take size (drop at memory), within, sized);
+      most = omega (arith, few, sized);
+      none = λ no. absurd (cc);
+    }
+
+-- what is answered where no instance stands at the address
+pub decoded_none : (d : Description) (memory : List ℕ) (at : ℕ) → IsUndecodable d memory at → DecodesAt d memory at None
+decoded_none d memory at none = record { found = tt; size = tt; most = tt; none = λ _. none }

@@ -1,5 +1,5 @@
 pub mod Decoder
-pub mod Decoding
+pub mod Inner
 pub use Rattle.qc_descr.specs.Coding
 pub use Rattle.qc_descr.specs.Description
 pub use Rattle.qc_descr.specs.Encoding

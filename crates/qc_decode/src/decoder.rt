@@ -1,10 +1,7 @@
-ghost use Rattle.std.specs.Prelude.{◌≡◌, ℕ, ◌<◌, ◌≤◌, List, length, take, drop, slice_get};
-ghost use Rattle.std.specs.Prelude.{IsNone, IfOk, IfSome};
-ghost use Rattle.qc_decode.specs.Decoder.{IsDecoderOf};
-ghost use Rattle.qc_descr.specs.Description.{size_of};
-ghost use Rattle.qc_descr.specs.Encoding.{IsCodedBy};
-ghost use Rattle.qc_descr.specs.Step.{EncodesAt, IsUndecodable};
-ghost use Rattle.qc_descr.specs.Valid.{HasLayout, IsCovered, IsValid, IsWithinLimits};
+ghost use Rattle.std.specs.Prelude.{◌≡◌, drop, IsNone, IfOk, IfSome};
+ghost use Rattle.qc_decode.specs.Decoder.{DecodesAt, IsDecoderOf};
+ghost use Rattle.qc_decode.specs.Inner.OperandsAt.{AreOperandsAt, HasNoOperandsAt, IsInstructionOf};
+ghost use Rattle.qc_descr.specs.Valid.{IsValid};
 
 use crate::bytes::{has_bytes, has_fixed_bits};
 use crate::operands::{decode_operand, operand_in_bytes};
@@ -22,14 +19,9 @@ fn decode_operands(
     at: u64,
     memory: &[u8],
 ) -> Option<Operands>
-    requires layout { HasLayout descr.now }
-    requires limits { IsWithinLimits descr.now }
-    requires covered { IsCovered descr.now instruction.now }
-    requires few { length instruction.now.operands ≤ 8 }
-    ensures some { IfSome result (λ operands.
-        IsCodedBy descr.now instruction.now at operands.items (take (size_of instruction.now) memory.now)) }
-    ensures none { IsNone result → (operands : List ℕ) →
-        IsCodedBy descr.now instruction.now at operands (take (size_of instruction.now) memory.now) → ⊥ }
+    requires { IsInstructionOf descr.now instruction.now }
+    ensures some { IfSome result (λ operands. AreOperandsAt descr.now instruction.now at memory.now operands.items) }
+    ensures none { IsNone result → HasNoOperandsAt descr.now instruction.now at memory.now }
 {
     let size = coding_size(&instruction.coding);
     if memory.len() < size {
@@ -57,7 +49,7 @@ fn decode_operands(
     }
 }
 
-/// The same, sooner where the fixed bits tell that there are none.
+/// The operands as `decode_operands` finds them, sooner where the fixed bits tell that there are none.
 fn decode_instruction(
     alloc: Global,
     descr: &Description,
@@ -65,14 +57,9 @@ fn decode_instruction(
     at: u64,
     memory: &[u8],
 ) -> Option<Operands>
-    requires layout { HasLayout descr.now }
-    requires limits { IsWithinLimits descr.now }
-    requires covered { IsCovered descr.now instruction.now }
-    requires few { length instruction.now.operands ≤ 8 }
-    ensures some { IfSome result (λ operands.
-        IsCodedBy descr.now instruction.now at operands.items (take (size_of instruction.now) memory.now)) }
-    ensures none { IsNone result → (operands : List ℕ) →
-        IsCodedBy descr.now instruction.now at operands (take (size_of instruction.now) memory.now) → ⊥ }
+    requires { IsInstructionOf descr.now instruction.now }
+    ensures some { IfSome result (λ operands. AreOperandsAt descr.now instruction.now at memory.now operands.items) }
+    ensures none { IsNone result → HasNoOperandsAt descr.now instruction.now at memory.now }
 {
     let size = coding_size(&instruction.coding);
     if size > memory.len() {
@@ -116,11 +103,7 @@ impl Decoder {
     pub fn decode(&self, descr: &Description, memory: &[u8], at: u64) -> Option<(Instance, usize)>
         requires valid { IsValid descr.now }
         requires made { IsDecoderOf descr.now self.now }
-        ensures found { IfSome result (λ r.
-            EncodesAt descr.now memory.now at r.0.instruction r.0.operands.items (take r.1 (drop at memory.now))) }
-        ensures size { IfSome result (λ r. length (take r.1 (drop at memory.now)) ≡ r.1) }
-        ensures most { IfSome result (λ r. r.1 ≤ 16) }
-        ensures none { IsNone result → IsUndecodable descr.now memory.now at }
+        ensures { DecodesAt descr.now memory.now at result }
     {
         let rest = memory_from(memory, at);
         for (number, instruction) in descr.instructions.as_slice().iter().enumerate() {
@@ -135,7 +118,7 @@ impl Decoder {
         None
     }
 
-    /// The same as `decode`, sooner where the instance is one of the instruction of this number.
+    /// What `decode` answers, sooner where the instance is one of the instruction of this number.
     pub fn decode_likely(
         &self,
         descr: &Description,
@@ -145,11 +128,7 @@ impl Decoder {
     ) -> Option<(Instance, usize)>
         requires valid { IsValid descr.now }
         requires made { IsDecoderOf descr.now self.now }
-        ensures found { IfSome result (λ r.
-            EncodesAt descr.now memory.now at r.0.instruction r.0.operands.items (take r.1 (drop at memory.now))) }
-        ensures size { IfSome result (λ r. length (take r.1 (drop at memory.now)) ≡ r.1) }
-        ensures most { IfSome result (λ r. r.1 ≤ 16) }
-        ensures none { IsNone result → IsUndecodable descr.now memory.now at }
+        ensures { DecodesAt descr.now memory.now at result }
     {
         if let Some(instruction) = descr.instructions.as_slice().get(likely as usize) {
             let rest = memory_from(memory, at);

@@ -1,9 +1,9 @@
 //! The operands of an instance, from its bytes.
 ghost use Rattle.std.specs.Prelude.{◌≡◌, ℕ, ◌<◌, ◌≤◌, ◌↔◌, ◌/◌, ◌^◌, length, sum, Some, IsNone, IfSome, IsTrue};
 ghost use Rattle.std.specs.List.{list_all};
-ghost use Rattle.qc_decode.specs.Decoding.{piece_value as value_of_piece};
-ghost use Rattle.qc_decode.specs.Decoding.{operand_in_byte as value_in_byte};
-ghost use Rattle.qc_decode.specs.Decoding.{operand_in_bytes as value_in_bytes};
+ghost use Rattle.qc_decode.specs.Inner.OperandsOfBytes.{piece_value as value_of_piece};
+ghost use Rattle.qc_decode.specs.Inner.OperandsOfBytes.{operand_in_byte as value_in_byte};
+ghost use Rattle.qc_decode.specs.Inner.OperandsOfBytes.{operand_in_bytes as value_in_bytes};
 ghost use Rattle.qc_descr.specs.Coding.{memory_bytes};
 ghost use Rattle.qc_descr.specs.Description.{IsInRange, IsNarrow};
 ghost use Rattle.qc_descr.specs.Reach.{HasFewBits, IsReached, coded_value};
@@ -63,7 +63,7 @@ pub(crate) fn is_in_range(descr: &Description, kind: OperandKind, operand: u64) 
             None => false,
         },
         OperandKind::Imm { width } => u128::from(operand) < 1 << width.bits(),
-        OperandKind::Address => u128::from(operand) < 1 << descr.facts.word.bits(),
+        OperandKind::Addr => u128::from(operand) < 1 << descr.facts.word.bits(),
     }
 }
 
@@ -141,6 +141,3 @@ pub fn decode_operand(
         _ => None,
     }
 }
-
-#[cfg(test)]
-mod tests;

@@ -12,22 +12,22 @@ use Rattle.qc_descr.specs.declared.description.OperandKind.{OperandKind}
 use Rattle.qc_descr.specs.declared.description.OperandKind.TheVariants as kind
 use Rattle.qc_descr.specs.declared.parts.Operation.{Operation}
 use Rattle.qc_descr.specs.declared.sketch.Claim.{Claim}
-use Rattle.qc_descr.specs.declared.sketch.Claim.TheVariants.{Free, Once, Twice}
+use Rattle.qc_descr.specs.declared.sketch.Claim.TheVariants.{Free, Once, Several}
 use Rattle.qc_descr.specs.declared.sketch.Sketch.{Sketch}
 use Rattle.qc_descr.specs.Coding.{is_piece}
-use Rattle.qc_descr.specs.CodingFaults.{all_dropped, all_stand_if_sized, before_sizes, bits_of_claims, dropped_bits, exponent_below, is_free, is_twice, missing_from, operand_size, operand_sizes, operands_of, operation_kinds, word_bits}
+use Rattle.qc_descr.specs.CodingFaults.{all_dropped, all_stand_if_sized, before_sizes, bits_of_claims, dropped_bits, exponent_below, is_free, is_several, missing_from, operand_size, operand_sizes, operands_of, operation_kinds, word_bits}
 use Rattle.qc_descr.specs.Making.{IsFit, coding_of}
 use Rattle.qc_descr.specs.Parts.{HasSpace}
 use Rattle.qc_descr.specs.Valid.{HasSize, HaveSizes, IsCovered, MayDrop, stands_once}
 use Rattle.qc_descr.proofs.Faultless.{IsFaultless}
 
 -- claims of which each is for one bit have as many bits
-length-bits_of_claims : (claims : List Claim) → list_any is_free claims ≡ false → list_any is_twice claims ≡ false →
+length-bits_of_claims : (claims : List Claim) → list_any is_free claims ≡ false → list_any is_several claims ≡ false →
     length (bits_of_claims claims) ≡ length claims
 length-bits_of_claims [] free twice = refl
 length-bits_of_claims (Free ∷ claims) free twice = absurd cc
 length-bits_of_claims (Once bit ∷ claims) free twice = ap suc (length-bits_of_claims claims free twice)
-length-bits_of_claims (Twice first second ∷ claims) free twice = absurd cc
+length-bits_of_claims (Several bits ∷ claims) free twice = absurd cc
 
 -- an exponent that was found is one
 exponent_is : (bound count size : ℕ) → exponent_below bound count ≡ Some size → count ≡ 2 ^ size
@@ -49,7 +49,7 @@ word_bits_are word bits size h =
     (leb-true _ _ tests.0, leb-true _ _ tests.1, sym found.1)
 
 -- a size that was found is the operand's
-has_size : (d : Description) (k : OperandKind) (reach : Reach) (size : ℕ) → HasSpace d.spaces k →
+pub has_size : (d : Description) (k : OperandKind) (reach : Reach) (size : ℕ) → HasSpace d.spaces k →
     operand_size d.facts.word d.spaces k reach ≡ Some size → HasSize d k reach size
 has_size d (kind.Register space) Plain size within h = (within, exponent_is 7 _ size h)
 has_size d (kind.Register space) (Relative bits) size within h = absurd cc
@@ -57,9 +57,9 @@ has_size d (kind.Register space) (Absolute bits) size within h = absurd cc
 has_size d (kind.Imm width) Plain size within h = cc
 has_size d (kind.Imm width) (Relative bits) size within h = absurd cc
 has_size d (kind.Imm width) (Absolute bits) size within h = absurd cc
-has_size d kind.Address Plain size within h = absurd cc
-has_size d kind.Address (Relative bits) size within h = word_bits_are d.facts.word bits size h
-has_size d kind.Address (Absolute bits) size within h = word_bits_are d.facts.word bits size h
+has_size d kind.Addr Plain size within h = absurd cc
+has_size d kind.Addr (Relative bits) size within h = word_bits_are d.facts.word bits size h
+has_size d kind.Addr (Absolute bits) size within h = word_bits_are d.facts.word bits size h
 
 -- no more bits are missing than there are
 missing_at_most : (operand : ℕ) (bits : List Bit) (from size : ℕ) → missing_from operand bits from size ≤ size
@@ -75,10 +75,10 @@ missing_at_most operand bits from (suc n) =
 may_drop : (k : OperandKind) (operand : ℕ) (bits : List Bit) (size : ℕ) → MayDrop k size (dropped_bits k operand bits size)
 may_drop (kind.Register space) operand bits size = refl
 may_drop (kind.Imm width) operand bits size = refl
-may_drop kind.Address operand bits size = missing_at_most operand bits 0 size
+may_drop kind.Addr operand bits size = missing_at_most operand bits 0 size
 
 -- sizes that are there are the first one's and the others'
-record AreBefore (first : Option ℕ) (others : Option (List ℕ)) (sizes : List ℕ) : Type 0 where
+pub record AreBefore (first : Option ℕ) (others : Option (List ℕ)) (sizes : List ℕ) : Type 0 where
   pub size : ℕ
   pub more : List ℕ
   pub is : first ≡ Some size
@@ -86,7 +86,7 @@ record AreBefore (first : Option ℕ) (others : Option (List ℕ)) (sizes : List
   pub both : sizes ≡ size ∷ more
 
 -- such sizes have both parts
-sizes_before : (first : Option ℕ) (others : Option (List ℕ)) (sizes : List ℕ) → before_sizes first others ≡ Some sizes → AreBefore first others sizes
+pub sizes_before : (first : Option ℕ) (others : Option (List ℕ)) (sizes : List ℕ) → before_sizes first others ≡ Some sizes → AreBefore first others sizes
 sizes_before None others sizes h = absurd cc
 sizes_before (Some n) None sizes h = absurd cc
 sizes_before (Some n) (Some ns) sizes h = record { size = n; more = ns; is = refl; are = refl; both = cc }

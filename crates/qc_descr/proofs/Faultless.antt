@@ -7,7 +7,7 @@ use Rattle.qc_terms.specs.declared.state.Order.{Order}
 use Rattle.qc_descr.specs.declared.coding.Coding.{Coding}
 use Rattle.qc_descr.specs.declared.sketch.Sketch.{Sketch}
 use Rattle.qc_descr.specs.Coding.{bytes_differ, memory_bytes}
-use Rattle.qc_descr.specs.CodingFaults.{Operands, first_overlap, is_covering, is_twice, overlap_with, sketch_fault, sketches_fault}
+use Rattle.qc_descr.specs.CodingFaults.{Operands, first_overlap, is_covering, is_several, overlap_with, sketch_fault, sketches_fault}
 use Rattle.qc_descr.specs.Valid.{all_differ}
 
 -- a test that passes, where its failure would give something
@@ -34,7 +34,7 @@ none_mapped f (Some found) h = let some : Some (f found) ≡ None = h in absurd 
 pub record IsFaultless (o : Operands) (s : Sketch) : Type 0 where
   pub fit : s.misfit ≡ false
   pub covering : is_covering o s ≡ true
-  pub once : list_any is_twice s.claims ≡ false
+  pub once : list_any is_several s.claims ≡ false
 
 -- an alternative in which no fault is found
 pub faultless_sketch : (o : Operands) (number : ℕ) (s : Sketch) → sketch_fault o number s ≡ None → IsFaultless o s

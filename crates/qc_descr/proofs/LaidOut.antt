@@ -161,7 +161,7 @@ zero_left_out d a None space first last h = tt
 zero_left_out d a (Some z) space first last h = not_allocatable d a z space first last h
 
 -- what a description of fit parts has
-pub laid_out : (p : Parts) → AllFit p → AreParts p.given p.spaces p.operations →
+pub laid_out : (p : Parts) → AllFit p → AreParts p.name p.given p.spaces p.operations →
     operations_fault (word_of p.given) p.spaces 0 p.operations p.sketches ≡ None → HasLayout (description_of p)
 laid_out p fit parts faultless =
     let d : Description = description_of p in

@@ -1,10 +1,13 @@
 pub mod Apart
 pub mod Branch
+pub mod Complete
 pub mod Covered
 pub mod Endings
 pub mod Faultless
+pub mod Fitting
 pub mod LaidOut
 pub mod Made
+pub mod Once
 pub mod Operands
 pub mod Overlapping
 pub mod Runs

@@ -16,6 +16,7 @@ use Rattle.qc_descr.specs.declared.sketch.Sketch.{Sketch}
 use Rattle.qc_descr.specs.CodingFaults.{Operands, operands_of, operation_kinds, operations_fault}
 use Rattle.qc_descr.specs.Layout.{unfit_part}
 use Rattle.qc_descr.specs.Making.{AreSketched, AreSketches, AreWholeParts, IsFit, description_of, facts_of, fault_of, first_coding, instructions_of}
+use Rattle.qc_descr.specs.Names.{AreDistinct, HasDistinctOperands, HasNamedOperands, HasNames, IsName}
 use Rattle.qc_descr.specs.Parts.{AreParts, HasSpace, IsOperation, word_of}
 use Rattle.qc_descr.specs.Valid.{IsCovered, IsValid, IsValidInstruction, IsWithinLimits, all_differ, nodes_of_rtl}
 use Rattle.qc_descr.proofs.Covered.{covered}
@@ -39,13 +40,21 @@ length-instructions_of (o ∷ os) [] = omega arith
 length-instructions_of (o ∷ os) (s ∷ ss) = omega (arith, length-instructions_of os ss)
 
 -- the instructions have the codings of the first alternatives
-same_codings : (word : ℕ) (spaces : List Space) (os : List Operation) (ss : List (List Sketch)) → AreSketched word spaces os ss →
+pub same_codings : (word : ℕ) (spaces : List Space) (os : List Operation) (ss : List (List Sketch)) → AreSketched word spaces os ss →
     map (λ (i : Instruction). i.coding) (instructions_of os ss) ≡ map first_coding ss
 same_codings word spaces [] [] sketched = refl
 same_codings word spaces [] (s ∷ ss) sketched = absurd sketched
 same_codings word spaces (o ∷ os) [] sketched = absurd sketched
 same_codings word spaces (o ∷ os) (s ∷ ss) sketched =
     ap (λ cs. first_coding s ∷ cs) (same_codings word spaces os ss sketched.1)
+
+-- the instructions have the names of the operations
+same_names : (word : ℕ) (spaces : List Space) (os : List Operation) (ss : List (List Sketch)) → AreSketched word spaces os ss →
+    map (λ (i : Instruction). i.name) (instructions_of os ss) ≡ map (λ (o : Operation). o.name) os
+same_names word spaces [] [] sketched = refl
+same_names word spaces [] (s ∷ ss) sketched = absurd sketched
+same_names word spaces (o ∷ os) [] sketched = absurd sketched
+same_names word spaces (o ∷ os) (s ∷ ss) sketched = ap (λ names. o.name ∷ names) (same_names word spaces os ss sketched.1)
 
 -- an alternative that isn't told to be misfit is fit
 fit_one : (o : Operands) (ss : List Sketch) (has : HasOne o ss) → AreSketches o ss → IsFit o has.one
@@ -83,7 +92,7 @@ valid_each p number (o ∷ os) (s ∷ ss) each sketched h =
     (valid_each p (suc number) os ss (All-tail (IsOperation p.given p.spaces) o os each) sketched.1 faults.1)
 
 -- how many things there are
-within_limits : (p : Parts) → AreParts p.given p.spaces p.operations → IsWithinLimits (description_of p)
+within_limits : (p : Parts) → AreParts p.name p.given p.spaces p.operations → IsWithinLimits (description_of p)
 within_limits p parts =
     let IsOne : Operation → Type 0 = IsOperation p.given p.spaces in
     record {
@@ -93,6 +102,21 @@ within_limits p parts =
       cells = parts.few_cells;
       effects = each_made (λ i. length i.rtl.effects ≤ 16) IsOne (λ o c is. is.effects) p.operations p.sketches parts.each;
       nodes = each_made (λ i. nodes_of_rtl i.rtl ≤ 4096) IsOne (λ o c is. is.nodes) p.operations p.sketches parts.each;
+    }
+
+-- the names are those of the parts
+has_names : (p : Parts) → AreWholeParts p → HasNames (description_of p)
+has_names p whole =
+    let IsOne : Operation → Type 0 = IsOperation p.given p.spaces in
+    record {
+      name = whole.parts.is_name;
+      space_names = whole.parts.space_names;
+      instruction_names = each_made (λ i. IsName i.name) IsOne (λ o c is. is.name) p.operations p.sketches whole.parts.each;
+      operand_names = each_made HasNamedOperands IsOne (λ o c is. is.operand_names) p.operations p.sketches whole.parts.each;
+      spaces = whole.parts.distinct_spaces;
+      instructions = subst AreDistinct (sym (same_names (word_of p.given) p.spaces p.operations p.sketches whole.sketched))
+          whole.parts.distinct_operations;
+      operands = each_made HasDistinctOperands IsOne (λ o c is. is.distinct) p.operations p.sketches whole.parts.each;
     }
 
 -- the description of parts without a fault
@@ -105,6 +129,7 @@ made_valid p whole h =
     record {
       layout = laid_out p fit whole.parts codings.0;
       limits = within_limits p whole.parts;
+      names = has_names p whole;
       instructions = valid_each p 0 p.operations p.sketches whole.parts.each whole.sketched codings.0;
       differ = subst (λ cs. all_differ order cs ≡ true)
           (sym (same_codings (word_of p.given) p.spaces p.operations p.sketches whole.sketched))

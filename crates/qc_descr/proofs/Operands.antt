@@ -12,7 +12,7 @@ use Rattle.qc_descr.specs.declared.coding.Reach.{Reach}
 use Rattle.qc_descr.specs.declared.description.Description.{Description}
 use Rattle.qc_descr.specs.declared.description.Instruction.{Instruction}
 use Rattle.qc_descr.specs.declared.description.OperandKind.{OperandKind}
-use Rattle.qc_descr.specs.declared.description.OperandKind.TheVariants.{Address}
+use Rattle.qc_descr.specs.declared.description.OperandKind.TheVariants.{Addr}
 use Rattle.qc_descr.specs.Coding.{bit_value, is_piece, memory_bytes}
 use Rattle.qc_descr.specs.Description.{AreInRange, kinds_of}
 use Rattle.qc_descr.specs.Encoding.{AreCodable, IsCodable, byte_value}
@@ -76,10 +76,10 @@ same_operand : (d : Description) (i : Instruction) (at number : ℕ) (xs ys : Li
 same_operand d i at number xs ys covered range other a b each within =
     let count : length xs ≡ length (kinds_of i) = length-in_range d (kinds_of i) xs range in
     let count_too : length ys ≡ length (kinds_of i) = length-in_range d (kinds_of i) ys other in
-    let k : OperandKind = get_or (kinds_of i) number Address in
+    let k : OperandKind = get_or (kinds_of i) number Addr in
     let sized : SizedAt d k i.coding.reaches covered.sizes covered.dropped number =
     sized_at d (kinds_of i) i.coding.reaches covered.sizes covered.dropped number k covered.sized
-    (slice_get-get_or (kinds_of i) number Address (omega arith)) in
+    (slice_get-get_or (kinds_of i) number Addr (omega arith)) in
     let one : IsCodable i.coding.bits sized.reach at number (slice_index xs number) = a number sized.reach sized.is in
     let two : IsCodable i.coding.bits sized.reach at number (slice_index ys number) = b number sized.reach sized.is in
     reached_once d k sized.reach (slice_index covered.sizes number) at (slice_index xs number) (slice_index ys number) sized.size one.reached two.reached

@@ -4,9 +4,9 @@ use Rattle.std.specs.Prelude.{slice_index}
 use Rattle.std.specs.Int.{bit_at}
 use Rattle.std.specs.List.{list_any, slice_get}
 use Rattle.std.proofs.lemmas.Bool.{both_ways, cases_Bool, cases_eq, cases_lt}
-use Rattle.std.proofs.Math.Nat.{pow-succ'}
 use Rattle.std.proofs.lemmas.Nat.Bits.{bit_at-lt, bit_at_above}
 use Rattle.std.proofs.lemmas.Option.{same_Some, slice_get_cases, slice_get_within}
+use Rattle.qc_lists.specs.Law.Powers.{below_power}
 use Rattle.qc_descr.specs.declared.coding.Bit.{Bit}
 use Rattle.qc_descr.specs.declared.coding.Coding.{Coding}
 use Rattle.qc_descr.specs.declared.coding.Reach.{Reach}
@@ -14,7 +14,7 @@ use Rattle.qc_descr.specs.declared.coding.Reach.TheVariants.{Plain, Relative, Ab
 use Rattle.qc_descr.specs.declared.description.Description.{Description}
 use Rattle.qc_descr.specs.declared.description.Instruction.{Instruction}
 use Rattle.qc_descr.specs.declared.description.OperandKind.{OperandKind}
-use Rattle.qc_descr.specs.declared.description.OperandKind.TheVariants.{Register, Imm, Address}
+use Rattle.qc_descr.specs.declared.description.OperandKind.TheVariants.{Register, Imm, Addr}
 use Rattle.qc_descr.specs.Description.{AreInRange, IsInRange, counts_of, kinds_of}
 use Rattle.qc_descr.specs.Coding.{is_piece}
 use Rattle.qc_descr.specs.Encoding.{AreCodable, IsCodable, coded_bytes}
@@ -72,11 +72,6 @@ found_reached : (reach : Reach) (at x : ℕ) → Found (IsReached reach at x)
 found_reached Plain at x = inl tt
 found_reached (Relative bits) at x = found_both (found_less x (at + 2 ^ (bits - 1))) (found_at_most at (x + 2 ^ (bits - 1)))
 found_reached (Absolute bits) at x = found_less x (2 ^ bits)
-
--- a number has fewer bits than its value
-below_power : (n : ℕ) → n < 2 ^ n
-below_power zero = omega arith
-below_power (suc n) = omega (arith, below_power n, pow-succ' 2 n)
 
 -- a bit of a value that has no place, and is 1
 abbrev IsLost : List Bit → ℕ → ℕ → ℕ → Type 0
@@ -151,19 +146,19 @@ found_prefix (x ∷ xs) (y ∷ ys) =
 range_of : Description → OperandKind → ℕ
 range_of d (Register space) = slice_index (counts_of d) space
 range_of d (Imm width) = 2 ^ width
-range_of d Address = 2 ^ d.facts.word
+range_of d Addr = 2 ^ d.facts.word
 
 in_range : (d : Description) (k : OperandKind) (operand : ℕ) → operand < range_of d k → IsInRange d k operand
 unfolding range_of
 in_range d (Register space) operand h = h
 in_range d (Imm width) operand h = h
-in_range d Address operand h = h
+in_range d Addr operand h = h
 
 below_range : (d : Description) (k : OperandKind) (operand : ℕ) → IsInRange d k operand → operand < range_of d k
 unfolding range_of
 below_range d (Register space) operand h = h
 below_range d (Imm width) operand h = h
-below_range d Address operand h = h
+below_range d Addr operand h = h
 
 only_nil : (d : Description) (P : List ℕ → Type 0) → (P [] → ⊥) → (xs : List ℕ) → AreInRange d [] xs → P xs → ⊥
 only_nil d P none [] range h = none h

@@ -2,7 +2,7 @@
 use Rattle.std.proofs.Common.{◌≡◌, ℕ, suc, ◌≤◌, ◌⊎◌, List, [], ◌∷◌, length, map, Bool, true, false, ◌&&◌, ◌||◌, not, if◌then◌else◌, Option, None, Some, refl, sym, subst, ◌∙◌, ap, arith, inl, inr, All, lit<, nat_eq, nat_le, IfSome, is_some}
 use Rattle.std.specs.List.{AllByRecursion, list_any}
 use Rattle.std.specs.Option.{option_map, option_or}
-use Rattle.std.proofs.lemmas.Bool.{and_parts}
+use Rattle.std.proofs.lemmas.Bool.{and_parts, not-true}
 use Rattle.std.proofs.lemmas.Bool.Decides.{nat_tests}
 use Rattle.std.proofs.lemmas.List.Elements.{All-from_recursion}
 use Rattle.qc_terms.specs.declared.state.Facts.{Facts}
@@ -14,26 +14,22 @@ use Rattle.qc_descr.specs.declared.faults.Part.{Part}
 use Rattle.qc_descr.specs.declared.faults.Part.TheVariants.{Word, Memory, Code, Data, Align, SlotBits, Frame, Link, Zero, Allocatable, Flags}
 use Rattle.qc_descr.specs.declared.parts.Operation.{Operation}
 use Rattle.qc_descr.specs.declared.sketch.Claim.{Claim}
-use Rattle.qc_descr.specs.declared.sketch.Claim.TheVariants.{Free, Once, Twice}
+use Rattle.qc_descr.specs.declared.sketch.Claim.TheVariants.{Free, Once, Several}
 use Rattle.qc_descr.specs.declared.sketch.Parts.{Parts}
 use Rattle.qc_descr.specs.declared.sketch.Sketch.{Sketch}
-use Rattle.qc_descr.specs.CodingFaults.{Operands, bits_of_claims, first_overlap, is_covering, is_free, is_twice, operands_of, operations_fault, sketch_fault, sketches_fault}
+use Rattle.qc_descr.specs.CodingFaults.{Operands, bits_of_claims, first_overlap, is_covering, is_free, is_several, operands_of, operations_fault, sketch_fault, sketches_fault}
 use Rattle.qc_descr.specs.Layout.{first_unfit, is_given_with, fits, unfit_part}
 use Rattle.qc_descr.specs.Making.{AreSketched, AreSketches, AreWholeParts, IsFit, coding_of, facts_of, fault_of, first_coding, instructions_of}
-use Rattle.qc_descr.specs.Overlaps.{HasBytes, own_fault}
+use Rattle.qc_descr.specs.Inner.Overlaps.{HasBytes, own_fault}
 use Rattle.qc_descr.specs.Parts.{width_or_32, word_of}
 
 -- claims that are neither free nor double are bits
-single_bits : (claims : List Claim) → list_any is_free claims ≡ false → list_any is_twice claims ≡ false →
+single_bits : (claims : List Claim) → list_any is_free claims ≡ false → list_any is_several claims ≡ false →
     length (bits_of_claims claims) ≡ length claims
 single_bits [] f t = refl
 single_bits (Free ∷ claims) f t = cc
 single_bits (Once bit ∷ claims) f t = ap suc (single_bits claims f t)
-single_bits (Twice first second ∷ claims) f t = cc
-
-not_true : (b : Bool) → not b ≡ true → b ≡ false
-not_true false h = refl
-not_true true h = cc
+single_bits (Several bits ∷ claims) f t = cc
 
 -- four tests in a row that find nothing
 tests_passed : (a m c t : Bool) (u v w x : DescrFault) →
@@ -46,16 +42,16 @@ tests_passed true false true true u v w x h = cc
 tests_passed true false true false u v w x h = (refl, refl, refl)
 
 sketch_passed : (o : Operands) (number : ℕ) (s : Sketch) → sketch_fault o number s ≡ None →
-    (s.misfit ≡ false) × (is_covering o s ≡ true) × (list_any is_twice s.claims ≡ false)
+    (s.misfit ≡ false) × (is_covering o s ≡ true) × (list_any is_several s.claims ≡ false)
 unfolding sketch_fault
-sketch_passed o number s h = tests_passed _ s.misfit (is_covering o s) (list_any is_twice s.claims) _ _ _ _ h
+sketch_passed o number s h = tests_passed _ s.misfit (is_covering o s) (list_any is_several s.claims) _ _ _ _ h
 
-fit_has_bytes : (o : Operands) (s : Sketch) → IsFit o s → is_covering o s ≡ true → list_any is_twice s.claims ≡ false →
+fit_has_bytes : (o : Operands) (s : Sketch) → IsFit o s → is_covering o s ≡ true → list_any is_several s.claims ≡ false →
     HasBytes (coding_of s)
 fit_has_bytes o s fit covering single = record {
   few = fit.few_tokens;
   tokens = fit.tokens;
-  bits = single_bits s.claims (not_true _ (and_parts _ _ covering).0) single ∙ fit.claims;
+  bits = single_bits s.claims (not-true _ (and_parts _ _ covering).0) single ∙ fit.claims;
 }
 
 sketch_has_bytes : (o : Operands) (number : ℕ) (s : Sketch) → (s.misfit ≡ true) ⊎ IsFit o s → sketch_fault o number s ≡ None →
@@ -63,7 +59,7 @@ sketch_has_bytes : (o : Operands) (number : ℕ) (s : Sketch) → (s.misfit ≡ 
 sketch_has_bytes o number s (inl misfit) h =
     let other : s.misfit ≡ false = (sketch_passed o number s h).0 in cc
 sketch_has_bytes o number s (inr fit) h =
-    let passed : (s.misfit ≡ false) × (is_covering o s ≡ true) × (list_any is_twice s.claims ≡ false) = sketch_passed o number s h in
+    let passed : (s.misfit ≡ false) × (is_covering o s ≡ true) × (list_any is_several s.claims ≡ false) = sketch_passed o number s h in
     fit_has_bytes o s fit passed.1 passed.2
 
 sketches_have_bytes : (o : Operands) (number : ℕ) (sketches : List Sketch) → AreSketches o sketches →
@@ -149,12 +145,6 @@ or_own None None c h = refl
 or_own None (Some fault) c h = cc
 or_own (Some part) b c h = cc
 
-or_found : (a : Option Part) (b c : Option DescrFault) (fault : DescrFault) → option_or (option_map BadLayout a) b ≡ Some fault →
-    option_or (option_map BadLayout a) (option_or b c) ≡ Some fault
-or_found None None c fault h = cc
-or_found None (Some x) c fault h = h
-or_found (Some part) b c fault h = h
-
 sketched_length : (word : ℕ) (spaces : List Space) (os : List Operation) (ss : List (List Sketch)) → AreSketched word spaces os ss →
     length os ≡ length ss
 sketched_length word spaces [] [] sketched = refl
@@ -177,11 +167,7 @@ whole_few p whole = omega (arith, no_more p.operations p.sketches, whole.parts.f
 pub whole_slot_bits : (p : Parts) → own_fault p ≡ None → IfSome p.given.slot_bits (λ n. n ≤ 32)
 whole_slot_bits p h = few_slot_bits p (layout_none (unfit_part p) _ h).0
 
--- a fault of their own is their fault
-pub own_is_first : (p : Parts) (fault : DescrFault) → own_fault p ≡ Some fault → fault_of p ≡ Some fault
-own_is_first p fault h = or_found (unfit_part p) _ _ fault h
-
--- without one theirs is that of the instructions
+-- the fault of parts that have none of their own is that of the instructions
 overlap_is_fault : (p : Parts) → AreWholeParts p → own_fault p ≡ None →
     fault_of p ≡ first_overlap (facts_of p.given).order 0 (map (λ i. i.coding) (instructions_of p.operations p.sketches))
 overlap_is_fault p whole h =
@@ -195,3 +181,16 @@ whole_fault p is facts whole own made told =
     subst (λ (f : Facts). fault_of p ≡ first_overlap f.order 0 (map (λ i. i.coding) is)) (sym told)
     (subst (λ (xs : List Instruction). fault_of p ≡ first_overlap (facts_of p.given).order 0 (map (λ i. i.coding) xs)) (sym made)
     (overlap_is_fault p whole own))
+
+-- the first of three is the first of two of them, where these have one
+first_of_two : {A : Type 0} (a b c : Option A) (x : A) → option_or a b ≡ Some x → option_or a (option_or b c) ≡ Some x
+first_of_two (Some y) b c x e = e
+first_of_two None (Some y) c x e = e
+first_of_two None None c x e = cc e
+
+-- the fault of parts is that which is found before overlaps are looked for, where there is one
+pub own_fault_first : (p : Parts) (fault : DescrFault) → own_fault p ≡ Some fault → fault_of p ≡ Some fault
+own_fault_first p fault e =
+    first_of_two (option_map BadLayout (unfit_part p))
+    (operations_fault (word_of p.given) p.spaces 0 p.operations p.sketches)
+    (first_overlap (facts_of p.given).order 0 (map first_coding p.sketches)) fault e

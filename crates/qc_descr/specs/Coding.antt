@@ -53,7 +53,7 @@ bits_differ [] ys = false
 bits_differ (x ∷ xs) [] = false
 bits_differ (x ∷ xs) (y ∷ ys) = differs_at x y || bits_differ xs ys
 
--- the same for bytes in memory
+-- some two bits at the same place of two lists of bytes differ so
 abbrev pub bytes_differ : List (List Bit) → List (List Bit) → Bool
 bytes_differ [] ys = false
 bytes_differ (x ∷ xs) [] = false

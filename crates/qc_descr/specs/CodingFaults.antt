@@ -16,9 +16,10 @@ use Rattle.qc_descr.specs.declared.faults.DescrFault.{DescrFault}
 use Rattle.qc_descr.specs.declared.faults.DescrFault.TheVariants.{Uncovered, Overlap, FieldRange}
 use Rattle.qc_descr.specs.declared.parts.Operation.{Operation}
 use Rattle.qc_descr.specs.declared.sketch.Claim.{Claim}
-use Rattle.qc_descr.specs.declared.sketch.Claim.TheVariants.{Free, Once, Twice}
+use Rattle.qc_descr.specs.declared.sketch.Claim.TheVariants.{Free, Once, Several}
 use Rattle.qc_descr.specs.declared.sketch.Sketch.{Sketch}
 use Rattle.qc_descr.specs.Coding.{bytes_differ, is_piece, memory_bytes}
+use Rattle.qc_descr.specs.Limits.{register_bits_end}
 use Rattle.qc_descr.specs.Valid.{stands_once}
 
 -- the n below this bound with 2 to the n so much, if there is one
@@ -33,18 +34,18 @@ word_bits word bits = if nat_le 1 bits && nat_le bits word then Some bits else N
 -- How many bits an operand has: a register of 2 to the n cells has n, an immediate has its width, and an address has
 -- those of its reach, from 1 to the word's. All else has no number of bits.
 abbrev pub operand_size : ℕ → List Space → OperandKind → Reach → Option ℕ
-operand_size word spaces (kind.Register space) Plain = exponent_below 7 (slice_index (map (λ s. s.cells) spaces) space)
+operand_size word spaces (kind.Register space) Plain = exponent_below register_bits_end (slice_index (map (λ s. s.cells) spaces) space)
 operand_size word spaces (kind.Imm width) Plain = Some width
-operand_size word spaces kind.Address (Relative bits) = word_bits word bits
-operand_size word spaces kind.Address (Absolute bits) = word_bits word bits
+operand_size word spaces kind.Addr (Relative bits) = word_bits word bits
+operand_size word spaces kind.Addr (Absolute bits) = word_bits word bits
 operand_size word spaces _ _ = None
 
 -- an address is relative or absolute, and nothing else is
 abbrev pub suits : OperandKind → Reach → Bool
 suits (kind.Register space) Plain = true
 suits (kind.Imm width) Plain = true
-suits kind.Address (Relative bits) = true
-suits kind.Address (Absolute bits) = true
+suits kind.Addr (Relative bits) = true
+suits kind.Addr (Absolute bits) = true
 suits _ _ = false
 
 -- one reach for each operand, which suits it
@@ -72,7 +73,7 @@ operand_sizes word spaces (k ∷ kinds) [] = None
 abbrev pub claimed_bits : Claim → List Bit
 claimed_bits Free = []
 claimed_bits (Once bit) = bit ∷ []
-claimed_bits (Twice first second) = first ∷ second ∷ []
+claimed_bits (Several bits) = bits
 
 -- what stands at a sketch's bits, from the lowest bit of the first token on
 abbrev pub bits_of_claims : List Claim → List Bit
@@ -81,12 +82,12 @@ bits_of_claims claims = flat_map claimed_bits claims
 abbrev pub is_free : Claim → Bool
 is_free Free = true
 is_free (Once bit) = false
-is_free (Twice first second) = false
+is_free (Several bits) = false
 
-abbrev pub is_twice : Claim → Bool
-is_twice Free = false
-is_twice (Once bit) = false
-is_twice (Twice first second) = true
+abbrev pub is_several : Claim → Bool
+is_several Free = false
+is_several (Once bit) = false
+is_several (Several bits) = true
 
 -- how many bits of an operand from this one on, of so many, stand nowhere before one that does
 unfoldable pub missing_from : ℕ → List Bit → ℕ → ℕ → ℕ
@@ -96,11 +97,11 @@ missing_from operand bits from (suc n) =
 
 -- the number of dropped bits of an operand of so many bits: of an address the lowest ones that stand nowhere
 abbrev pub dropped_bits : OperandKind → ℕ → List Bit → ℕ → ℕ
-dropped_bits kind.Address operand bits size = missing_from operand bits 0 size
+dropped_bits kind.Addr operand bits size = missing_from operand bits 0 size
 dropped_bits (kind.Register space) operand bits size = 0
 dropped_bits (kind.Imm width) operand bits size = 0
 
--- the same for operands of these kinds and sizes, of which the first has this number
+-- the numbers of dropped bits of operands of these kinds and sizes, of which the first has this number
 abbrev pub all_dropped : List OperandKind → ℕ → List Bit → List ℕ → List ℕ
 all_dropped [] operand bits sizes = []
 all_dropped (k ∷ kinds) operand bits [] = []
@@ -111,7 +112,7 @@ all_dropped (k ∷ kinds) operand bits (size ∷ sizes) =
 abbrev pub all_stand : List OperandKind → List ℕ → List Bit → Bool
 all_stand kinds sizes bits = stands_once sizes (all_dropped kinds 0 bits sizes) bits
 
--- the same where the sizes are there
+-- where operands have sizes, each bit of them stands in just one place, but for dropped ones
 abbrev pub all_stand_if_sized : List OperandKind → Option (List ℕ) → List Bit → Bool
 all_stand_if_sized kinds None bits = true
 all_stand_if_sized kinds (Some sizes) bits = all_stand kinds sizes bits
@@ -129,16 +130,16 @@ is_covering o s =
     && all_stand_if_sized o.kinds (operand_sizes o.word o.spaces o.kinds s.reaches) (bits_of_claims s.claims)
 
 -- What is wrong with the operation of this number, by its one alternative: reaches that don't suit the operands, then a
--- misfit, then what isn't covered, then a bit that is claimed twice.
+-- misfit, then what isn't covered, then a bit of which several things are said.
 unfoldable pub sketch_fault : Operands → ℕ → Sketch → Option DescrFault
 sketch_fault o number s =
     if not (all_suit o.kinds s.reaches) then Some (Uncovered number)
     else if s.misfit then Some (FieldRange number)
     else if not (is_covering o s) then Some (Uncovered number)
-    else if list_any is_twice s.claims then Some (FieldRange number)
+    else if list_any is_several s.claims then Some (FieldRange number)
     else None
 
--- the same by its alternatives, of which there has to be one
+-- what is wrong with an operation by its alternatives, of which there has to be one
 abbrev pub sketches_fault : Operands → ℕ → List Sketch → Option DescrFault
 sketches_fault o number [] = Some (Uncovered number)
 sketches_fault o number (s ∷ []) = sketch_fault o number s
@@ -157,7 +158,7 @@ operations_fault word spaces number (o ∷ os) [] = None
 operations_fault word spaces number (o ∷ os) (s ∷ ss) =
     option_or (sketches_fault (operands_of word spaces o) number s) (operations_fault word spaces (suc number) os ss)
 
--- an overlap of the coding of this number with the first of those that have numbers from the second one on
+-- an overlap of coding number a with the first of these codings, which are numbered from b, that overlaps it
 abbrev pub overlap_with : Order → ℕ → Coding → ℕ → List Coding → Option DescrFault
 overlap_with order a c b [] = None
 overlap_with order a c b (x ∷ xs) =

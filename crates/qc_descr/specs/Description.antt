@@ -4,7 +4,7 @@ use Rattle.qc_terms.specs.State.{Context}
 use Rattle.qc_descr.specs.declared.description.Description.{Description}
 use Rattle.qc_descr.specs.declared.description.Instruction.{Instruction}
 use Rattle.qc_descr.specs.declared.description.OperandKind.{OperandKind}
-use Rattle.qc_descr.specs.declared.description.OperandKind.TheVariants.{Register, Imm, Address}
+use Rattle.qc_descr.specs.declared.description.OperandKind.TheVariants.{Register, Imm, Addr}
 
 -- the width and the number of cells of each space
 abbrev pub widths_of : Description → List ℕ
@@ -28,7 +28,7 @@ size_of i = sum i.coding.tokens / 8
 abbrev pub IsInRange : Description → OperandKind → ℕ → Type 0
 IsInRange d (Register space) operand = operand < slice_index (counts_of d) space
 IsInRange d (Imm width) operand = operand < 2 ^ width
-IsInRange d Address operand = operand < 2 ^ d.facts.word
+IsInRange d Addr operand = operand < 2 ^ d.facts.word
 
 -- there is one operand for each kind, in range
 abbrev pub AreInRange : Description → List OperandKind → List ℕ → Type 0
@@ -41,4 +41,4 @@ AreInRange d (kind ∷ kinds) (operand ∷ operands) = IsInRange d kind operand 
 abbrev pub IsNarrow : OperandKind → Type 0
 IsNarrow (Register space) = Unit {0}
 IsNarrow (Imm width) = width ≤ 64
-IsNarrow Address = Unit {0}
+IsNarrow Addr = Unit {0}

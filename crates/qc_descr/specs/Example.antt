@@ -7,7 +7,7 @@ use Rattle.qc_descr.specs.declared.coding.Bit.TheVariants.{Fixed, Piece}
 use Rattle.qc_descr.specs.declared.coding.Coding.{Coding}
 use Rattle.qc_descr.specs.declared.coding.Reach.TheVariants.{Relative}
 use Rattle.qc_descr.specs.declared.description.Instruction.{Instruction}
-use Rattle.qc_descr.specs.declared.description.OperandKind.TheVariants.{Address}
+use Rattle.qc_descr.specs.declared.description.OperandKind.TheVariants.{Addr}
 
 abbrev pub branch_coding : Coding
 branch_coding = record {
@@ -19,7 +19,7 @@ branch_coding = record {
 abbrev pub branch : Instruction
 branch = record {
   name = codes "b";
-  operands = (codes "t", Address) ∷ [];
+  operands = (codes "t", Addr) ∷ [];
   rtl = record { effects = record { guard = None; to = Pc; value = term.Imm 0 16 } ∷ [] };
   coding = branch_coding;
 }

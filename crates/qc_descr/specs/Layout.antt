@@ -8,6 +8,7 @@ use Rattle.qc_descr.specs.declared.faults.Part.{Part}
 use Rattle.qc_descr.specs.declared.faults.Part.TheVariants.{Word, Memory, Code, Data, Align, SlotBits, Frame, Link, Zero, Allocatable, Flags}
 use Rattle.qc_descr.specs.declared.sketch.Parts.{Parts}
 use Rattle.qc_descr.specs.declared.sketch.Sketch.{Sketch}
+use Rattle.qc_descr.specs.Limits.{least_code, least_data, least_slot_bits, most_code, most_memory}
 use Rattle.qc_descr.specs.Parts.{word_of}
 
 -- a value is given, and passes the test
@@ -45,17 +46,17 @@ fits_word p = is_given_with (λ w. nat_eq w 16 || nat_eq w 32) p.given.word && i
 
 abbrev pub fits_memory : Parts → Bool
 fits_memory p =
-    is_given_with (λ m. nat_le m (2 ^ word_of p.given) && nat_le m 67108864
+    is_given_with (λ m. nat_le m (2 ^ word_of p.given) && nat_le m most_memory
     && nat_eq (m % (word_of p.given / 8)) 0) p.given.memory
 
 abbrev pub fits_code : Parts → Bool
 fits_code p =
-    is_given_with (λ c. nat_le 16 c && nat_le c 1048576 && fits_if_given (nat_lt c) p.given.data_end) p.given.code_end
+    is_given_with (λ c. nat_le least_code c && nat_le c most_code && fits_if_given (nat_lt c) p.given.data_end) p.given.code_end
 
 -- the data region ends at least 8 bytes above the code region's end and below the memory's, where these are given
 abbrev pub fits_data : Parts → Bool
 fits_data p =
-    is_given_with (λ e. fits_if_given (λ c. nat_le (c + 8) e) p.given.code_end
+    is_given_with (λ e. fits_if_given (λ c. nat_le (c + least_data) e) p.given.code_end
     && fits_if_given (nat_lt e) p.given.memory) p.given.data_end
 
 abbrev pub is_alignment : ℕ → Bool
@@ -65,7 +66,7 @@ abbrev pub fits_align : Parts → Bool
 fits_align p = is_given_with (λ a. is_alignment a && list_all (is_aligned a) p.sketches) p.given.align
 
 abbrev pub fits_slot_bits : Parts → Bool
-fits_slot_bits p = is_given_with (λ n. nat_le 4 n && nat_le n (word_of p.given)) p.given.slot_bits
+fits_slot_bits p = is_given_with (λ n. nat_le least_slot_bits n && nat_le n (word_of p.given)) p.given.slot_bits
 
 abbrev pub fits_frame : Parts → Bool
 fits_frame p = is_given_with (λ cell. has_words p cell.0) p.given.frame

@@ -21,6 +21,7 @@ use Rattle.qc_descr.specs.declared.sketch.Parts.{Parts}
 use Rattle.qc_descr.specs.declared.sketch.Sketch.{Sketch}
 use Rattle.qc_descr.specs.CodingFaults.{Operands, bits_of_claims, first_overlap, operand_sizes, operands_of, operations_fault}
 use Rattle.qc_descr.specs.Layout.{unfit_part}
+use Rattle.qc_descr.specs.Limits.{most_tokens}
 use Rattle.qc_descr.specs.Parts.{AreParts, word_of}
 use Rattle.qc_descr.specs.Valid.{is_token, is_within}
 
@@ -28,7 +29,7 @@ use Rattle.qc_descr.specs.Valid.{is_token, is_within}
 -- each operand; and it claims no bit for one that an operand hasn't.
 pub record IsFit (o : Operands) (s : Sketch) : Type 0 where
   pub some_token : 1 ≤ length s.tokens
-  pub few_tokens : length s.tokens ≤ 4
+  pub few_tokens : length s.tokens ≤ most_tokens
   pub tokens : IsTrue (list_all is_token s.tokens)
   pub claims : length s.claims ≡ sum s.tokens
   pub sizes : List ℕ
@@ -49,7 +50,7 @@ AreSketched word spaces (o ∷ os) [] = ⊥
 
 -- What a description can be made of.
 pub record AreWholeParts (p : Parts) : Type 0 where
-  pub parts : AreParts p.given p.spaces p.operations
+  pub parts : AreParts p.name p.given p.spaces p.operations
   pub sketched : AreSketched (word_of p.given) p.spaces p.operations p.sketches
 
 -- the coding of an alternative

@@ -26,6 +26,8 @@ use Rattle.qc_descr.specs.declared.description.OperandKind.TheVariants as kind
 use Rattle.qc_descr.specs.declared.description.Space.{Space}
 use Rattle.qc_descr.specs.Coding.{memory_bytes, bytes_differ, is_piece}
 use Rattle.qc_descr.specs.Description.{widths_of, counts_of, context_of_description, kinds_of, size_of}
+use Rattle.qc_descr.specs.Limits.{least_code, least_data, least_slot_bits, most_cells, most_code, most_effects, most_instructions, most_memory, most_nodes, most_operands, most_spaces, most_tokens}
+use Rattle.qc_descr.specs.Names.{HasNames}
 
 -- a cell of a space whose cells are words of the machine
 abbrev pub IsWordCell : Description → ℕ × ℕ → Type 0
@@ -41,15 +43,15 @@ IsAllocatable d cell = (cell.0 ≡ d.allocatable) × (d.first ≤ cell.1) × (ce
 pub record HasLayout (d : Description) : Type 0 where
   pub word : (d.facts.word ≡ 16) ⊎ (d.facts.word ≡ 32)
   pub memory_fits : d.memory ≤ 2 ^ d.facts.word
-  pub memory_size : d.memory ≤ 67108864
+  pub memory_size : d.memory ≤ most_memory
   pub memory_words : d.memory % (d.facts.word / 8) ≡ 0
-  pub code_least : 16 ≤ d.code_end
-  pub code_most : d.code_end ≤ 1048576
-  pub «data» : d.code_end + 8 ≤ d.data_end
+  pub code_least : least_code ≤ d.code_end
+  pub code_most : d.code_end ≤ most_code
+  pub «data» : d.code_end + least_data ≤ d.data_end
   pub stack : d.data_end < d.memory
   pub align : Contains (1 ∷ 2 ∷ 4 ∷ 8 ∷ 16 ∷ []) d.align
   pub aligned : All (λ i. size_of i % d.align ≡ 0) d.instructions
-  pub slot_least : 4 ≤ d.slot_bits
+  pub slot_least : least_slot_bits ≤ d.slot_bits
   pub slot_most : d.slot_bits ≤ d.facts.word
   pub frame : IsWordCell d d.frame
   pub link : IsWordCell d d.link
@@ -79,12 +81,12 @@ nodes_of_rtl rtl =
 
 -- how many things of each sort there may be
 pub record IsWithinLimits (d : Description) : Type 0 where
-  pub instructions : length d.instructions ≤ 256
-  pub operands : All (λ i. length i.operands ≤ 8) d.instructions
-  pub spaces : length d.spaces ≤ 8
-  pub cells : All (λ s. s.cells ≤ 64) d.spaces
-  pub effects : All (λ i. length i.rtl.effects ≤ 16) d.instructions
-  pub nodes : All (λ i. nodes_of_rtl i.rtl ≤ 4096) d.instructions
+  pub instructions : length d.instructions ≤ most_instructions
+  pub operands : All (λ i. length i.operands ≤ most_operands) d.instructions
+  pub spaces : length d.spaces ≤ most_spaces
+  pub cells : All (λ s. s.cells ≤ most_cells) d.spaces
+  pub effects : All (λ i. length i.rtl.effects ≤ most_effects) d.instructions
+  pub nodes : All (λ i. nodes_of_rtl i.rtl ≤ most_nodes) d.instructions
 
 -- An operand that is named as a register is one, of this space. One that is named as an immediate is one of this width,
 -- or an address, where the width is the word's.
@@ -95,7 +97,7 @@ NamesPlace kinds (place.Operand space number) = slice_get kinds number ≡ Some 
 abbrev pub NamesImmediate : ℕ → List OperandKind → ℕ → ℕ → Type 0
 NamesImmediate word kinds operand width =
     (slice_get kinds operand ≡ Some (kind.Imm width))
-    ⊎ ((slice_get kinds operand ≡ Some kind.Address) × (width ≡ word))
+    ⊎ ((slice_get kinds operand ≡ Some kind.Addr) × (width ≡ word))
 
 abbrev pub NamesOperands : ℕ → List OperandKind → Tree → Type 0
 NamesOperands word kinds (Number value width) = Unit {0}
@@ -107,7 +109,7 @@ NamesOperands word kinds (Load width address) = NamesOperands word kinds address
 NamesOperands word kinds (NextInput width) = Unit {0}
 NamesOperands word kinds (AddressAfter width) = Unit {0}
 
--- the same for a destination
+-- a destination names each operand as what it is
 abbrev pub NamesDest : ℕ → List OperandKind → Dest → Type 0
 NamesDest word kinds (dest.Reg place) = NamesPlace kinds place
 NamesDest word kinds (dest.Mem width address) = NamesOperands word kinds (tree_of address)
@@ -125,13 +127,13 @@ abbrev pub HasSize : Description → OperandKind → Reach → ℕ → Type 0
 HasSize d (kind.Register space) Plain size =
     (space < length d.spaces) × (slice_index (counts_of d) space ≡ 2 ^ size)
 HasSize d (kind.Imm width) Plain size = size ≡ width
-HasSize d kind.Address (Relative bits) size = (1 ≤ bits) × (bits ≤ d.facts.word) × (size ≡ bits)
-HasSize d kind.Address (Absolute bits) size = (1 ≤ bits) × (bits ≤ d.facts.word) × (size ≡ bits)
+HasSize d kind.Addr (Relative bits) size = (1 ≤ bits) × (bits ≤ d.facts.word) × (size ≡ bits)
+HasSize d kind.Addr (Absolute bits) size = (1 ≤ bits) × (bits ≤ d.facts.word) × (size ≡ bits)
 HasSize d _ _ size = ⊥
 
 -- how many of an operand's lowest bits stand nowhere in the coding: of an address some, of any other operand none
 abbrev pub MayDrop : OperandKind → ℕ → ℕ → Type 0
-MayDrop kind.Address size dropped = dropped ≤ size
+MayDrop kind.Addr size dropped = dropped ≤ size
 MayDrop _ size dropped = dropped ≡ 0
 
 -- each operand has one reach, a size, and a number of dropped bits
@@ -166,7 +168,7 @@ is_token size = nat_eq size 8 || nat_eq size 16 || nat_eq size 32
 -- bits of addresses that are dropped.
 pub record IsCovered (d : Description) (i : Instruction) : Type 0 where
   pub some_token : 1 ≤ length i.coding.tokens
-  pub few_tokens : length i.coding.tokens ≤ 4
+  pub few_tokens : length i.coding.tokens ≤ most_tokens
   pub tokens : IsTrue (list_all is_token i.coding.tokens)
   pub no_free_bit : length i.coding.bits ≡ sum i.coding.tokens
   pub sizes : List ℕ
@@ -194,5 +196,6 @@ all_differ order (c ∷ cs) =
 pub record IsValid (d : Description) : Type 0 where
   pub layout : HasLayout d
   pub limits : IsWithinLimits d
+  pub names : HasNames d
   pub instructions : All (IsValidInstruction d) d.instructions
   pub differ : IsTrue (all_differ d.facts.order (map (λ i. i.coding) d.instructions))

@@ -5,10 +5,10 @@ ghost use Rattle.std.specs.List.{list_any};
 ghost use Rattle.std.specs.Option.{option_map};
 ghost use Rattle.qc_descr.specs.Coding.{is_piece};
 ghost use Rattle.qc_descr.specs.CodingFaults.{all_dropped, all_suit, bits_of_claims, claimed_bits, dropped_bits};
-ghost use Rattle.qc_descr.specs.CodingFaults.{exponent_below, is_covering, is_free, is_twice, missing_from};
+ghost use Rattle.qc_descr.specs.CodingFaults.{exponent_below, is_covering, is_free, is_several, missing_from};
 ghost use Rattle.qc_descr.specs.CodingFaults.{operand_size, operand_sizes, operands_of, operations_fault, sketch_fault};
 ghost use Rattle.qc_descr.specs.CodingFaults.{sketches_fault, suits, word_bits};
-ghost use Rattle.qc_descr.specs.Standing.{bit_is_right};
+ghost use Rattle.qc_descr.specs.Inner.Standing.{bit_is_right};
 ghost use Rattle.qc_descr.specs.Valid.{all_below, stands_once};
 
 use crate::coding::{Bit, Reach};
@@ -67,7 +67,7 @@ fn plain_size(spaces: &[Space], kind: OperandKind) -> Option<u8>
     match kind {
         OperandKind::Register { space } => register_size(spaces, space),
         OperandKind::Imm { width } => Some(width.bits()),
-        OperandKind::Address => None,
+        OperandKind::Addr => None,
     }
 }
 
@@ -79,7 +79,7 @@ pub fn operand_size(word: Width, spaces: &[Space], kind: OperandKind, reach: Rea
     match reach {
         Reach::Plain => plain_size(spaces, kind),
         Reach::Relative { bits } | Reach::Absolute { bits } => match kind {
-            OperandKind::Address => word_bits(word, bits),
+            OperandKind::Addr => word_bits(word, bits),
             OperandKind::Register { .. } | OperandKind::Imm { .. } => None,
         },
     }
@@ -91,7 +91,7 @@ fn suits(kind: OperandKind, reach: Reach) -> bool
 {
     match kind {
         OperandKind::Register { .. } | OperandKind::Imm { .. } => reach == Reach::Plain,
-        OperandKind::Address => reach != Reach::Plain,
+        OperandKind::Addr => reach != Reach::Plain,
     }
 }
 
@@ -141,16 +141,39 @@ fn is_piece(operand: u32, bit: u8, stands: Bit) -> bool
     stands == Bit::Piece { operand, bit }
 }
 
+/// How often this bit of this operand is among these bits.
+pub fn pieces_among(operand: u32, bit: u8, bits: &[Bit]) -> usize
+    ensures { result ≡ count_by (is_piece operand bit) bits.now }
+{
+    let mut count: usize = 0;
+    for stands in bits {
+        if is_piece(operand, bit, *stands) {
+            count += 1;
+        }
+    }
+    count
+}
+
+/// Whether this bit of this operand is among these bits.
+fn has_piece_among(operand: u32, bit: u8, bits: &[Bit]) -> bool
+    ensures { result ≡ list_any (is_piece operand bit) bits.now }
+{
+    for stands in bits {
+        if is_piece(operand, bit, *stands) {
+            return true;
+        }
+    }
+    false
+}
+
 /// Whether this bit of this operand is claimed.
-fn claim_has_piece(operand: u32, bit: u8, claim: Claim) -> bool
-    ensures { result ≡ list_any (is_piece operand bit) (claimed_bits claim) }
+fn claim_has_piece(operand: u32, bit: u8, claim: &Claim) -> bool
+    ensures { result ≡ list_any (is_piece operand bit) (claimed_bits claim.now) }
 {
     match claim {
         Claim::Free => false,
-        Claim::Once { bit: stands } => is_piece(operand, bit, stands),
-        Claim::Twice { first, second } => {
-            is_piece(operand, bit, first) || is_piece(operand, bit, second)
-        }
+        Claim::Once { bit: stands } => is_piece(operand, bit, *stands),
+        Claim::Several { bits } => has_piece_among(operand, bit, bits.as_slice()),
     }
 }
 
@@ -159,7 +182,7 @@ fn has_piece(operand: u32, bit: u8, claims: &[Claim]) -> bool
     ensures { result ≡ list_any (is_piece operand bit) (bits_of_claims claims.now) }
 {
     for claim in claims {
-        if claim_has_piece(operand, bit, *claim) {
+        if claim_has_piece(operand, bit, claim) {
             return true;
         }
     }
@@ -167,26 +190,23 @@ fn has_piece(operand: u32, bit: u8, claims: &[Claim]) -> bool
 }
 
 /// How often a claim has this bit of this operand.
-fn pieces_of_claim(operand: u32, bit: u8, claim: Claim) -> usize
-    ensures value { result ≡ count_by (is_piece operand bit) (claimed_bits claim) }
-    ensures bound { result ≤ 2 }
+fn pieces_of_claim(operand: u32, bit: u8, claim: &Claim) -> usize
+    ensures { result ≡ count_by (is_piece operand bit) (claimed_bits claim.now) }
 {
     match claim {
         Claim::Free => 0,
-        Claim::Once { bit: stands } => usize::from(is_piece(operand, bit, stands)),
-        Claim::Twice { first, second } => {
-            usize::from(is_piece(operand, bit, first)) + usize::from(is_piece(operand, bit, second))
-        }
+        Claim::Once { bit: stands } => usize::from(is_piece(operand, bit, *stands)),
+        Claim::Several { bits } => pieces_among(operand, bit, bits.as_slice()),
     }
 }
 
 /// How often this bit of this operand is claimed.
-fn count_pieces(operand: u32, bit: u8, claims: &[Claim]) -> usize
+fn count_pieces(operand: u32, bit: u8, claims: &[Claim]) -> u128
     ensures { result ≡ count_by (is_piece operand bit) (bits_of_claims claims.now) }
 {
-    let mut count = 0;
+    let mut count: u128 = 0;
     for claim in claims {
-        count += pieces_of_claim(operand, bit, *claim);
+        count += pieces_of_claim(operand, bit, claim) as u128;
     }
     count
 }
@@ -212,7 +232,7 @@ fn dropped_bits(kind: OperandKind, operand: u32, claims: &[Claim], size: u8) -> 
     ensures { result ≡ dropped_bits kind operand (bits_of_claims claims.now) size }
 {
     match kind {
-        OperandKind::Address => missing_from(operand, claims, 0, size),
+        OperandKind::Addr => missing_from(operand, claims, 0, size),
         OperandKind::Register { .. } | OperandKind::Imm { .. } => 0,
     }
 }
@@ -282,34 +302,44 @@ fn all_stand(sizes: &[u8], dropped: &[u8], claims: &[Claim]) -> bool
     true
 }
 
+/// Whether the bit is free.
+fn is_free(claim: &Claim) -> bool
+    ensures { result ≡ is_free claim.now }
+{
+    match claim {
+        Claim::Free => true,
+        Claim::Once { .. } | Claim::Several { .. } => false,
+    }
+}
+
 /// Whether a bit is free.
 fn has_free(claims: &[Claim]) -> bool
     ensures { result ≡ list_any is_free claims.now }
 {
     for claim in claims {
-        if *claim == Claim::Free {
+        if is_free(claim) {
             return true;
         }
     }
     false
 }
 
-/// Whether the bit is claimed twice.
-fn is_twice(claim: Claim) -> bool
-    ensures { result ≡ is_twice claim }
+/// Whether several things are said of the bit.
+fn is_several(claim: &Claim) -> bool
+    ensures { result ≡ is_several claim.now }
 {
     match claim {
         Claim::Free | Claim::Once { .. } => false,
-        Claim::Twice { .. } => true,
+        Claim::Several { .. } => true,
     }
 }
 
-/// Whether a bit is claimed twice.
-fn has_twice(claims: &[Claim]) -> bool
-    ensures { result ≡ list_any is_twice claims.now }
+/// Whether several things are said of a bit.
+fn has_several(claims: &[Claim]) -> bool
+    ensures { result ≡ list_any is_several claims.now }
 {
     for claim in claims {
-        if is_twice(*claim) {
+        if is_several(claim) {
             return true;
         }
     }
@@ -366,7 +396,7 @@ fn sketch_fault(
             instruction: number,
         });
     }
-    if has_twice(sketch.claims.as_slice()) {
+    if has_several(sketch.claims.as_slice()) {
         return Some(DescrFault::FieldRange {
             instruction: number,
         });

@@ -11,7 +11,7 @@ use sqlite_items::Items;
 pub enum OperandKind {
     Register { space: u32 },
     Imm { width: Width },
-    Address,
+    Addr,
 }
 
 /// A space of cells. The cells of a space of flags have one bit and are not allocated.

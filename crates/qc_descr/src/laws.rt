@@ -1,15 +1,17 @@
 //! Facts about all descriptions. A caller of one of these functions has its `ensures`; no code runs.
-ghost use Rattle.std.specs.Prelude.{◌≡◌, ℕ, ◌<◌, ◌≤◌, List, [], ◌∷◌, length, None, slice_index, IsTrue};
+ghost use Rattle.std.specs.Prelude.{◌≡◌, ℕ, ◌<◌, ◌≤◌, List, [], ◌∷◌, length, None, Some, slice_get, slice_index, IsTrue};
 ghost use Rattle.std.specs.List.{list_any};
 ghost use Rattle.qc_terms.specs.declared.state.State.{State};
 ghost use Rattle.qc_terms.specs.Effects.{Outcome};
 ghost use Rattle.qc_terms.specs.Observation.{ending_of};
+ghost use Rattle.qc_descr.specs.declared.coding.Bit.TheVariants.{Piece};
 ghost use Rattle.qc_descr.specs.declared.description.Description.{Description};
 ghost use Rattle.qc_descr.specs.declared.description.Instruction.{Instruction};
 ghost use Rattle.qc_descr.specs.Coding.{is_piece, memory_bytes};
 ghost use Rattle.qc_descr.specs.Encoding.{IsCodedBy};
 ghost use Rattle.qc_descr.specs.Example.{branch};
 ghost use Rattle.qc_descr.specs.declared.sketch.Parts.{Parts};
+ghost use Rattle.qc_descr.specs.Complete.{AreComplete};
 ghost use Rattle.qc_descr.specs.Making.{AreWholeParts, description_of, fault_of};
 ghost use Rattle.qc_descr.specs.Step.{OneInstance, Progress, RunsTo, Steps};
 ghost use Rattle.qc_descr.specs.Valid.{IsCovered, IsValid};
@@ -22,6 +24,14 @@ pub fn pieces_stand()
         operand < length covered.sizes → slice_index covered.dropped operand ≤ bit →
         bit < slice_index covered.sizes operand →
         IsTrue (list_any (list_any (is_piece operand bit)) (memory_bytes d.facts.order i.coding)) }
+{}
+
+/// No bit of an operand stands in two places of a coding, and none that is dropped stands in any.
+pub fn operands_have_one_place()
+    ensures one { (d : Description) (i : Instruction) → IsCovered d i → (m n operand bit : ℕ) →
+        slice_get i.coding.bits m ≡ Some (Piece operand bit) → slice_get i.coding.bits n ≡ Some (Piece operand bit) → m ≡ n }
+    ensures kept { (d : Description) (i : Instruction) (covered : IsCovered d i) (place operand bit : ℕ) →
+        slice_get i.coding.bits place ≡ Some (Piece operand bit) → slice_index covered.dropped operand ≤ bit }
 {}
 
 /// At most one instance encodes to a prefix of the memory from an address.
@@ -71,4 +81,9 @@ pub fn example_of_branch()
 /// The description of parts without a fault is valid.
 pub fn descriptions_are_valid()
     ensures { (p : Parts) → AreWholeParts p → fault_of p ≡ None → IsValid (description_of p) }
+{}
+
+/// Parts that leave nothing open have no fault where the description that they would make is valid.
+pub fn valid_parts_have_no_fault()
+    ensures { (p : Parts) → AreWholeParts p → AreComplete p → IsValid (description_of p) → fault_of p ≡ None }
 {}

@@ -206,7 +206,7 @@ fn fits_align(parts: &Parts) -> bool
 }
 
 fn fits_frame(parts: &Parts) -> bool
-    requires { AreParts parts.now.given parts.now.spaces parts.now.operations }
+    requires { AreParts parts.now.name parts.now.given parts.now.spaces parts.now.operations }
     ensures { result ≡ fits_frame parts.now }
 {
     match parts.given.frame {
@@ -216,7 +216,7 @@ fn fits_frame(parts: &Parts) -> bool
 }
 
 fn fits_link(parts: &Parts) -> bool
-    requires { AreParts parts.now.given parts.now.spaces parts.now.operations }
+    requires { AreParts parts.now.name parts.now.given parts.now.spaces parts.now.operations }
     ensures { result ≡ fits_link parts.now }
 {
     match parts.given.link {
@@ -226,7 +226,7 @@ fn fits_link(parts: &Parts) -> bool
 }
 
 fn fits_zero(parts: &Parts) -> bool
-    requires { AreParts parts.now.given parts.now.spaces parts.now.operations }
+    requires { AreParts parts.now.name parts.now.given parts.now.spaces parts.now.operations }
     ensures { result ≡ fits_zero parts.now }
 {
     match parts.given.zero {
@@ -250,7 +250,7 @@ fn is_of_space(space: u32, given: Option<(u32, u32)>) -> bool
 }
 
 fn fits_allocatable(parts: &Parts) -> bool
-    requires { AreParts parts.now.given parts.now.spaces parts.now.operations }
+    requires { AreParts parts.now.name parts.now.given parts.now.spaces parts.now.operations }
     ensures { result ≡ fits_allocatable parts.now }
 {
     match parts.given.allocatable {
@@ -282,7 +282,7 @@ fn fits_flags(parts: &Parts) -> bool
 /// The first of the cells' parts that isn't given or doesn't fit.
 #[tactic(auto, unfolding(crate::specs::Layout::fits))]
 fn unfit_cells(parts: &Parts) -> Option<Part>
-    requires { AreParts parts.now.given parts.now.spaces parts.now.operations }
+    requires { AreParts parts.now.name parts.now.given parts.now.spaces parts.now.operations }
     ensures { result ≡ first_unfit parts.now (Frame ∷ Link ∷ Zero ∷ Allocatable ∷ Flags ∷ []) }
 {
     if !fits_frame(parts) {
@@ -306,7 +306,7 @@ fn unfit_cells(parts: &Parts) -> Option<Part>
 /// The first part of the layout that isn't given or doesn't fit.
 #[tactic(auto, unfolding(crate::specs::Layout::fits))]
 pub(crate) fn unfit_part(parts: &Parts) -> Option<Part>
-    requires { AreParts parts.now.given parts.now.spaces parts.now.operations }
+    requires { AreParts parts.now.name parts.now.given parts.now.spaces parts.now.operations }
     ensures { result ≡ unfit_part parts.now }
 {
     if !fits_word(parts) {

@@ -3,7 +3,7 @@ ghost use Rattle.std.specs.Prelude.{◌≡◌, ◌++◌, ◌≤◌, IfOk, IfSome
 ghost use Rattle.qc_descr.specs.declared.sketch.Parts.{Parts};
 ghost use Rattle.qc_descr.specs.CodingFaults.{bits_of_claims, claimed_bits};
 ghost use Rattle.qc_descr.specs.Making.{AreWholeParts, coding_of, description_of, facts_of, first_coding, instructions_of};
-ghost use Rattle.qc_descr.specs.Overlaps.{own_fault};
+ghost use Rattle.qc_descr.specs.Inner.Overlaps.{own_fault};
 ghost use Rattle.qc_descr.specs.Parts.{word_of};
 
 use crate::coding::{Bit, Coding};
@@ -53,15 +53,14 @@ fn facts_of(given: &Given) -> Facts
 }
 
 /// Adds what stands at a token's bit.
-fn push_claim(bits: &mut Items<Bit>, claim: Claim) -> Result<(), AllocError>
-    ensures { OnOk result (bits.new ≡ bits.old ++ claimed_bits claim) }
+fn push_claim(alloc: Global, bits: &mut Items<Bit>, claim: &Claim) -> Result<(), AllocError>
+    ensures { OnOk result (bits.new ≡ bits.old ++ claimed_bits claim.now) }
 {
     match claim {
         Claim::Free => Ok(()),
-        Claim::Once { bit } => bits.push(bit),
-        Claim::Twice { first, second } => {
-            bits.push(first)?;
-            bits.push(second)
+        Claim::Once { bit } => bits.push(*bit),
+        Claim::Several { bits: several } => {
+            bits.append(Items::from_slice(alloc, several.as_slice())?)
         }
     }
 }
@@ -72,7 +71,7 @@ fn bits_of_claims(alloc: Global, claims: &[Claim]) -> Result<Items<Bit>, AllocEr
 {
     let mut bits = Items::new(alloc);
     for claim in claims {
-        push_claim(&mut bits, *claim)?;
+        push_claim(alloc, &mut bits, claim)?;
     }
     Ok(bits)
 }

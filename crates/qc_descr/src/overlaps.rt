@@ -2,7 +2,7 @@
 ghost use Rattle.std.specs.Prelude.{◌≡◌, ◌+◌, ◌≤◌, ◌/◌, All, length, map, sum};
 ghost use Rattle.qc_descr.specs.Coding.{bits_differ, bytes_differ, differs_at, memory_bytes};
 ghost use Rattle.qc_descr.specs.CodingFaults.{first_overlap, overlap_with};
-ghost use Rattle.qc_descr.specs.Overlaps.{HasBytes};
+ghost use Rattle.qc_descr.specs.Inner.Overlaps.{HasBytes};
 
 use crate::coding::{Bit, Coding};
 use crate::coding_bytes::{coding_size, memory_byte};

@@ -14,7 +14,7 @@ use Rattle.qc_descr.specs.Reach.{IsReached, coded_operands, coded_value}
 use Rattle.qc_descr.specs.Law.Operands.{coded_at, length-coded}
 use Rattle.std.proofs.lemmas.Option.{slice_get-get_or}
 use Rattle.qc_encode.proofs.Written.{written_more}
-use Rattle.qc_encode.specs.Placed.{place_of, placed_bits}
+use Rattle.qc_encode.specs.Inner.PlacedBits.{place_of, placed_bits}
 
 -- a bit of a place
 place_bit_named : (place bit : ℕ) → bit < 64 → bit_at (cond (nat_lt place 64) (2 ^ place) 0) bit ≡ cond (nat_eq place bit) 1 0
@@ -68,7 +68,7 @@ kept_by operand bits v small e bit none =
       | inr more ↦ bit_at_above v 64 bit small more
     ]
 
--- and the other way round
+-- where no bit of a value stands at a place that the coding hasn't, the places keep each bit
 kept_bit : (operand : ℕ) (bits : List Bit) (v : ℕ) → v < 2 ^ 64 →
     ((bit : ℕ) → list_any (is_piece operand bit) bits ≡ false → bit_at v bit ≡ 0) →
     (bit : ℕ) → min (bit_at v bit) (bit_at (placed_bits operand bits) bit) ≡ bit_at v bit

@@ -1,5 +1,5 @@
 -- The instruction of an instance, once it was read.
-use Rattle.std.proofs.Common.{◌≡◌, ℕ, ◌≤◌, ◌<◌, List, length, get_or, All, Some, sym, ◌∙◌, ap, subst, arith}
+use Rattle.std.proofs.Common.{◌≡◌, ℕ, ◌<◌, List, length, get_or, Some, sym, ◌∙◌, ap, subst, arith}
 use Rattle.std.specs.List.{slice_get}
 use Rattle.std.proofs.lemmas.List.{length-map}
 use Rattle.std.proofs.lemmas.Option.{get_or_from_slice_get, same_Some, slice_get-get_or}
@@ -7,11 +7,12 @@ use Rattle.qc_descr.specs.declared.coding.Reach.{Reach}
 use Rattle.qc_descr.specs.declared.description.Description.{Description}
 use Rattle.qc_descr.specs.declared.description.Instruction.{Instruction}
 use Rattle.qc_descr.specs.declared.description.OperandKind.{OperandKind}
-use Rattle.qc_descr.specs.declared.description.OperandKind.TheVariants.{Address}
+use Rattle.qc_descr.specs.declared.description.OperandKind.TheVariants.{Addr}
 use Rattle.qc_descr.specs.Description.{AreInRange, kinds_of}
 use Rattle.qc_descr.specs.Encoding.{AreCodable, Encodes, IsCodable, IsInstance, coded_bytes}
 use Rattle.qc_descr.specs.Reach.{HasFewBits, coded_operands}
 use Rattle.qc_encode.specs.declared.operands.OutOfReach.{OutOfReach}
+use Rattle.qc_encode.specs.Inner.InstructionOf.{IsInstructionOf}
 use Rattle.qc_encode.specs.Refusal.{IsFirstUncodable, IsOutOfReach}
 use Rattle.qc_descr.specs.Valid.{IsCovered, IsValid}
 use Rattle.qc_descr.specs.Law.CodedBytes.{covered_at, few_operands}
@@ -22,29 +23,21 @@ pub same_read : (d : Description) (xs : List Instruction) (number : ℕ) (i r : 
 same_read d xs number i r is e read =
     read ∙ ap (λ ys. get_or ys number r) e ∙ get_or_from_slice_get d.instructions number i r is
 
--- what is known of it
-pub record IsRead (d : Description) (number : ℕ) (operands : List ℕ) (i r : Instruction) : Type 0 where
-  pub same : r ≡ i
-  pub covered : IsCovered d r
-  pub in_range : AreInRange d (kinds_of r) operands
-  pub few : length operands ≤ 8
-  pub reaches : length r.coding.reaches ≡ length operands
-  pub bits : All HasFewBits r.coding.reaches
-
 few_bits_at : (d : Description) (i : Instruction) (number : ℕ) → IsValid d → IsCovered d i → number < length i.coding.reaches →
     (reach : Reach) → slice_get i.coding.reaches number ≡ Some reach → HasFewBits reach
 few_bits_at d i number valid covered within reach is =
     let count : length i.coding.reaches ≡ length (kinds_of i) =
     length-reaches d (kinds_of i) i.coding.reaches covered.sizes covered.dropped covered.sized in
-    let k : OperandKind = get_or (kinds_of i) number Address in
+    let k : OperandKind = get_or (kinds_of i) number Addr in
     let sized : SizedAt d k i.coding.reaches covered.sizes covered.dropped number =
     sized_at d (kinds_of i) i.coding.reaches covered.sizes covered.dropped number k covered.sized
-    (slice_get-get_or (kinds_of i) number Address (omega arith)) in
+    (slice_get-get_or (kinds_of i) number Addr (omega arith)) in
     let same : sized.reach ≡ reach = cc (sized.is, is) in
     subst HasFewBits same (has_few_bits d k sized.reach _ valid.layout sized.size)
 
+-- the instruction that was read is the instance's
 pub is_read : (d : Description) (xs : List Instruction) (number : ℕ) (operands : List ℕ) (r : Instruction) → IsValid d →
-    (one : IsInstance d number operands) → xs ≡ d.instructions → r ≡ get_or xs number r → IsRead d number operands one.instruction r
+    (one : IsInstance d number operands) → xs ≡ d.instructions → r ≡ get_or xs number r → IsInstructionOf d number operands r
 is_read d xs number operands r valid one e read =
     let i : Instruction = one.instruction in
     let same : r ≡ i = same_read d xs number i r one.is e read in
@@ -56,7 +49,7 @@ is_read d xs number operands r valid one e read =
     let reaches : length r.coding.reaches ≡ length (kinds_of r) =
     length-reaches d (kinds_of r) r.coding.reaches covered.sizes covered.dropped covered.sized in
     record {
-      same = same;
+      is = there;
       covered = covered;
       in_range = range;
       few = omega (arith, few_operands d number r valid there);
@@ -66,12 +59,12 @@ is_read d xs number operands r valid one e read =
     }
 
 -- the bytes that are put are the instance's
-pub encoded : (d : Description) (at number : ℕ) (operands given : List ℕ) (one : IsInstance d number operands) (r : Instruction) →
-    IsRead d number operands one.instruction r → given ≡ operands → (coded bytes : List ℕ) → AreCodable r.coding at given →
+pub encoded : (d : Description) (at number : ℕ) (operands given : List ℕ) (r : Instruction) →
+    IsInstructionOf d number operands r → given ≡ operands → (coded bytes : List ℕ) → AreCodable r.coding at given →
     coded ≡ coded_operands r.coding.reaches at given → bytes ≡ coded_bytes d.facts.order r.coding coded → Encodes d at number operands bytes
-encoded d at number operands given one r read e coded bytes codable is put = record {
+encoded d at number operands given r read e coded bytes codable is put = record {
   instruction = r;
-  is = one.is ∙ ap Some (sym read.same);
+  is = read.is;
   coded = record {
     in_range = read.in_range;
     codable = subst (AreCodable r.coding at) e codable;
@@ -79,17 +72,17 @@ encoded d at number operands given one r read e coded bytes codable is put = rec
   };
 }
 
--- the operand that is told is the first that can't be coded
-pub told : (d : Description) (at number : ℕ) (operands given : List ℕ) (one : IsInstance d number operands) (r : Instruction) →
-    IsRead d number operands one.instruction r → given ≡ operands → (o : OutOfReach) → IsFirstUncodable r.coding at given o →
+-- the operand that is refused is the first that can't be coded
+pub refused : (d : Description) (at number : ℕ) (operands given : List ℕ) (r : Instruction) →
+    IsInstructionOf d number operands r → given ≡ operands → (o : OutOfReach) → IsFirstUncodable r.coding at given o →
     IsOutOfReach d at number operands o
-told d at number operands given one r read e o first = record {
+refused d at number operands given r read e o first = record {
   instruction = r;
-  is = one.is ∙ ap Some (sym read.same);
+  is = read.is;
   first = subst (λ xs. IsFirstUncodable r.coding at xs o) e first;
 }
 
--- and so no bytes are the instance's
+-- where an operand can't be coded no bytes are the instance's
 pub refuted : (d : Description) (at number : ℕ) (operands : List ℕ) (o : OutOfReach) (bytes : List ℕ) → IsOutOfReach d at number operands o →
     Encodes d at number operands bytes → ⊥
 refuted d at number operands o bytes out e =

@@ -13,7 +13,7 @@ written_more whole old into i v e h k r =
     ∙ sym (append_assoc (take i whole) (get_or whole i 0 ∷ []) (drop (i + 1) old))
     ∙ ap (λ s. s ++ drop (i + 1) old) (sym (take_more whole i 0 h))
 
--- and at its end
+-- where the whole list was written its front is that list
 pub written_front : (whole old into : List ℕ) (n : ℕ) → into ≡ take n whole ++ drop n old → length whole ≡ n → take n into ≡ whole
 written_front whole old into n e h =
     let all : take n whole ≡ whole = take_all n whole (omega arith) in

@@ -1,4 +1,4 @@
-pub mod Placed
+pub mod Inner
 pub mod Refusal
 pub use Rattle.qc_descr.specs.Coding
 pub use Rattle.qc_descr.specs.Description

@@ -5,10 +5,11 @@ ghost use Rattle.qc_descr.specs.Encoding.{IsInstance};
 ghost use Rattle.qc_descr.specs.Description.{size_of};
 ghost use Rattle.qc_descr.specs.Encoding.{Encodes, coded_bytes};
 ghost use Rattle.qc_descr.specs.Valid.{IsValid, is_token};
+ghost use Rattle.qc_encode.specs.Inner.InstructionOf.{IsInstructionOf};
 ghost use Rattle.qc_encode.specs.Refusal.{IsOutOfReach};
 
 use crate::operands::{OutOfReach, code_operands};
-use qc_descr::{Coding, Description, Instance, byte_value, coding_size, memory_byte};
+use qc_descr::{Coding, Description, Instance, Instruction, byte_value, coding_size, memory_byte};
 use qc_terms::Order;
 
 /// Puts the bytes of a coding under the coded values of the operands into the first places of `into`, and answers how many
@@ -29,12 +30,21 @@ fn encode_coding(coding: &Coding, order: Order, operands: &[u64], into: &mut [u8
     size
 }
 
+/// The instruction of an instance.
+fn instruction_of<'a>(descr: &'a Description, instance: &Instance) -> &'a Instruction
+    requires valid { IsValid descr.now }
+    requires instance { IsInstance descr.now instance.now.instruction instance.now.operands.items }
+    ensures { IsInstructionOf descr.now instance.now.instruction instance.now.operands.items result.now }
+{
+    &descr.instructions.as_slice()[instance.instruction as usize]
+}
+
 /// Puts the bytes of an instance that is to stand at the address into the first places of `into`, and answers how many
 /// there are. No other place changes. The address is that of the first byte, and counts bytes. It takes no memory.
 ///
 /// # Errors
 ///
-/// Where an operand can't be coded at that address, the first such one is told, and nothing is put.
+/// Where an operand can't be coded at that address, the error names the first such one, and nothing is put.
 pub fn encode(
     descr: &Description,
     instance: &Instance,
@@ -56,7 +66,7 @@ pub fn encode(
         Encodes descr.now at instance.now.instruction instance.now.operands.items bytes → ⊥ }
     ensures unchanged { IsErr result → into.new ≡ into.old }
 {
-    let instruction = &descr.instructions.as_slice()[instance.instruction as usize];
+    let instruction = instruction_of(descr, instance);
     let coding = &instruction.coding;
     let operands = instance.operands.as_slice();
     match code_operands(coding, at, operands) {

@@ -3,8 +3,8 @@ ghost use Rattle.std.specs.Prelude.{◌≡◌, ℕ, ◌<◌, ◌≤◌, length, 
 ghost use Rattle.qc_descr.specs.Encoding.{AreCodable, IsCodable};
 ghost use Rattle.qc_descr.specs.Reach.{HasFewBits, IsReached, coded_operands};
 ghost use Rattle.qc_descr.specs.Reach.{coded_value as value_by_reach};
-ghost use Rattle.qc_encode.specs.Placed.{place_of as place_of_bit};
-ghost use Rattle.qc_encode.specs.Placed.{placed_bits as places_of_bits};
+ghost use Rattle.qc_encode.specs.Inner.PlacedBits.{place_of as place_of_bit};
+ghost use Rattle.qc_encode.specs.Inner.PlacedBits.{placed_bits as places_of_bits};
 ghost use Rattle.qc_encode.specs.Refusal.{IsFirstUncodable};
 
 use qc_descr::{Bit, Coding, Reach};
@@ -118,6 +118,3 @@ pub fn code_operands(coding: &Coding, at: u64, operands: &[u64]) -> Result<[u64;
     }
     Ok(coded)
 }
-
-#[cfg(test)]
-mod tests;

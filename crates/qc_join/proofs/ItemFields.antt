@@ -2,11 +2,12 @@
 use Rattle.std.specs.Prelude.{ℕ, suc, ◌≡◌, ◌+◌, ◌<◌, List, [], ◌∷◌, ◌++◌, length, take}
 use Rattle.std.proofs.Common.{refl, ap, sym, ◌∙◌, arith, subst, append_assoc, get_or}
 use Rattle.std.proofs.lemmas.List.{take_more, length-take-le}
+use Rattle.qc_names.specs.Tables.{named}
 use Rattle.qc_sled.specs.declared.syntax.Field.{Field}
 use Rattle.qc_sled.specs.declared.syntax.Item.{Item}
 use Rattle.qc_sled.specs.declared.syntax.Item.TheVariants.{Fields, Pattern, Constructor}
 use Rattle.qc_join.specs.declared.expanded.FieldPlace.{FieldPlace}
-use Rattle.qc_join.specs.Declarations.{IsTableOf}
+use Rattle.qc_names.specs.ValueTables.{IsTableOf}
 use Rattle.qc_join.specs.Expansion.{places_of, fields_from}
 
 -- the fields of two lists of one item

@@ -13,7 +13,7 @@ use Rattle.qc_join.specs.declared.faults.JoinFault.TheVariants.{UnknownName, Twi
 use Rattle.qc_join.specs.declared.faults.NameFault.{NameFault}
 use Rattle.qc_join.specs.declared.faults.NameFault.TheVariants.{Unknown, Twice}
 use Rattle.qc_widths.specs.declared.machine.Machine.{Machine}
-use Rattle.qc_join.specs.Faults.{fault_of_name, told}
+use Rattle.qc_join.specs.Faults.{fault_of_name, reported}
 use Rattle.qc_join.specs.Joining.{Joins, JoinsParts, name_fault, parts_of}
 use Rattle.qc_join.specs.Names.{name_faults}
 
@@ -31,13 +31,3 @@ pub refused : (machine : Machine) (raw : RawCoding) (found : NameFault) →
     name_fault machine raw ≡ Some (fault_of_name found) → Joins machine raw (Err (Fault (fault_of_name found)))
 refused machine raw (Unknown token) h = h
 refused machine raw (Twice token) h = h
-
--- what is told, by the machine's name and its operations
-pub fault_found : (machine : Machine) (raw : RawCoding) (name : List ℕ) (operations : List Operation)
-    (found : Option NameFault) → name ≡ machine.name → operations ≡ machine.operations →
-    found ≡ told (name_faults name (map (λ o. o.name) operations) raw) →
-    name_fault machine raw ≡ option_map fault_of_name found
-fault_found machine raw name operations found same each is =
-    sym (ap (option_map fault_of_name)
-    (is ∙ ap (λ n. told (name_faults n (map (λ o. o.name) operations) raw)) same
-    ∙ ap (λ os. told (name_faults machine.name (map (λ o. o.name) os) raw)) each))

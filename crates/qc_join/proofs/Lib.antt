@@ -2,7 +2,6 @@ mod Alternatives
 mod ItemFields
 mod Joined
 mod NameSets
-mod NotedNames
 mod Operands
 mod Parts
 mod PatternFaults
@@ -10,6 +9,4 @@ mod Places
 mod SameFaults
 mod Sound
 mod SoundPatterns
-mod Tables
-mod Told
 mod Whole

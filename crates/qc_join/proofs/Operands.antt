@@ -6,7 +6,7 @@ use Rattle.qc_descr.specs.declared.coding.Reach.{Reach}
 use Rattle.qc_descr.specs.declared.description.OperandKind.{OperandKind}
 use Rattle.qc_descr.specs.declared.description.Space.{Space}
 use Rattle.qc_descr.specs.CodingFaults.{operand_size}
-use Rattle.qc_join.specs.Declarations.{IsTableOf}
+use Rattle.qc_names.specs.ValueTables.{IsTableOf}
 use Rattle.qc_join.specs.Joining.{named_operands}
 
 -- all behind the first

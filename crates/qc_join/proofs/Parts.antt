@@ -9,7 +9,7 @@ use Rattle.qc_join.specs.declared.expanded.Expanded.TheVariants.{Several}
 use Rattle.qc_join.specs.declared.expanded.FieldPlace.{FieldPlace}
 use Rattle.qc_join.specs.Alternatives.{one_of}
 use Rattle.qc_join.specs.Expansion.{Scope, patterns_in, patterns_after}
-use Rattle.qc_join.specs.Expanding.{all_expanded, expanded-name, expanded-equal, expanded-group, expanded-conjunction, expanded-sequence, expanded-alternatives}
+use Rattle.qc_join.specs.Inner.Expanding.{all_expanded, expanded-name, expanded-equal, expanded-group, expanded-conjunction, expanded-sequence, expanded-alternatives}
 
 -- what each form of a pattern comes to
 pub ruleset expanding = (

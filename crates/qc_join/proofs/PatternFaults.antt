@@ -2,15 +2,16 @@
 use Rattle.std.specs.Prelude.{ℕ, ◌≡◌, List, [], ◌∷◌, ◌++◌, map}
 use Rattle.std.specs.List.{flat_map}
 use Rattle.std.proofs.Common.{refl, ap, sym, ◌∙◌}
-use Rattle.qc_text.specs.declared.cursor.Ident.{Ident}
+use Rattle.qc_names.specs.Tables.{is_among}
+use Rattle.qc_grammar.specs.declared.cursor.Ident.{Ident}
 use Rattle.qc_sled.specs.declared.syntax.Pattern as tree
 use Rattle.qc_sled.specs.declared.syntax.Pattern.{fold-Pattern, fold-roll-Pattern}
 use Rattle.qc_sled.specs.declared.syntax.Pattern.TheVariants as part
 use Rattle.qc_sled.specs.declared.syntax.Pattern.TheOpen.{Name, Equal, Group, Conjunction, Sequence, Alternatives}
 use Rattle.qc_sled.specs.declared.syntax.Value.{Value}
 use Rattle.qc_join.specs.declared.faults.NameFault.{NameFault}
-use Rattle.qc_join.specs.Names.{Names, is_among, unknown_unless, value_faults, faults_layer, pattern_faults}
-use Rattle.qc_join.proofs.Told.{told-append, both_assoc, both-none}
+use Rattle.qc_join.specs.Names.{Names, unknown_unless, value_faults, faults_layer, pattern_faults}
+use Rattle.qc_names.specs.Law.Reported.{reported-append, both_assoc, both-none}
 
 -- the faults of all parts
 abbrev pub parts_faults : Names → List tree.Pattern → List NameFault
@@ -81,7 +82,7 @@ pub ruleset faults = (
   faults-conjunction,
   faults-sequence,
   faults-alternatives,
-  told-append,
+  reported-append,
   both_assoc,
   both-none,
 )

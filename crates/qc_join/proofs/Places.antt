@@ -6,10 +6,10 @@ use Rattle.std.specs.Str.{bytes_eq}
 use Rattle.std.proofs.Common.{refl, ap, sym, ◌∙◌, arith, subst, get_or, Bor}
 use Rattle.std.proofs.lemmas.List.{take_more, length-take-le}
 use Rattle.std.proofs.lemmas.Option.{slice_get_past, slice_get_read}
+use Rattle.qc_names.specs.Tables.{named}
 use Rattle.qc_sled.specs.declared.syntax.Item.{Item}
 use Rattle.qc_sled.specs.declared.syntax.Item.TheVariants.{Fields, Pattern, Constructor}
-use Rattle.qc_join.specs.Constructors.{constructor_of, constructor_places}
-use Rattle.qc_join.specs.Expansion.{named}
+use Rattle.qc_join.specs.Inner.Constructors.{constructor_of, constructor_places}
 use Rattle.qc_join.specs.Joining.{ConstructorOf, constructors_in}
 
 constructor_places-append : (number : ℕ) (xs ys : List Item) →

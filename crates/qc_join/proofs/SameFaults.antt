@@ -5,7 +5,12 @@ use Rattle.std.specs.Str.{bytes_eq}
 use Rattle.std.proofs.Common.{refl, ap, sym, ◌∙◌, subst, get_or}
 use Rattle.std.proofs.lemmas.List.{at_drop_more}
 use Rattle.std.proofs.lemmas.List.Folds.{list_any-append}
-use Rattle.qc_text.specs.declared.cursor.Ident.{Ident}
+use Rattle.qc_names.specs.Seen.{none_seen, texts_of}
+use Rattle.qc_names.specs.Law.Tables.{same_names}
+use Rattle.qc_names.specs.Law.Seen.{has_seen}
+use Rattle.qc_join.specs.declared.faults.NameFault.TheVariants.{Twice}
+use Rattle.qc_names.specs.declared.seen.Seen.{Seen}
+use Rattle.qc_grammar.specs.declared.cursor.Ident.{Ident}
 use Rattle.qc_sled.specs.declared.syntax.Item.{Item}
 use Rattle.qc_sled.specs.declared.syntax.Item.TheVariants as declaration
 use Rattle.qc_sled.specs.declared.syntax.Param.{Param}
@@ -14,14 +19,12 @@ use Rattle.qc_sled.specs.declared.syntax.Pattern.{map-Pattern, ind-Pattern, fold
 use Rattle.qc_sled.specs.declared.syntax.Pattern.TheOpen.{Pattern-F, Name, Equal, Group, Conjunction, Sequence, Alternatives}
 use Rattle.qc_sled.specs.declared.syntax.Value.{Value}
 use Rattle.qc_sled.specs.declared.syntax.Value.TheVariants as value_of
-use Rattle.qc_names.specs.Tables.{names_in}
+use Rattle.qc_names.specs.Tables.{names_in, is_among, SameNames, HasNames}
 use Rattle.qc_join.specs.declared.faults.NameFault.{NameFault}
-use Rattle.qc_join.specs.declared.seen.Seen.{Seen}
-use Rattle.qc_join.specs.Faults.{told_of_both, told}
-use Rattle.qc_join.specs.Names.{Names, is_among, unknown_unless, texts_of, pattern_names, second_names, value_faults, faults_layer, pattern_faults, item_faults, items_faults}
-use Rattle.qc_join.specs.NameSets.{SameNames, HasNames, none_seen, noted_all}
-use Rattle.qc_join.proofs.Told.{both_assoc, told-append}
-use Rattle.qc_join.proofs.NameSets.{same_names, has_seen}
+use Rattle.qc_join.specs.Faults.{reported_of_both, reported, token_of, rank_of}
+use Rattle.qc_join.specs.Names.{Names, unknown_unless, pattern_names, second_names, value_faults, faults_layer, pattern_faults, item_faults, items_faults}
+use Rattle.qc_join.specs.Inner.KeptNames.{noted_all}
+use Rattle.qc_names.specs.Law.Reported.{both_assoc, reported-append}
 
 -- more names behind names that are the same
 pub same_append : (names others more : List (List ℕ)) → SameNames names others
@@ -133,7 +136,7 @@ param_texts [] = refl
 param_texts (p ∷ params) = ap (λ ts. p.name.text ∷ ts) (param_texts params)
 
 -- a constructor's body, whose operands are the parameters that were seen
-pub operands_same : (fields patterns : List (List ℕ)) (params : List Param) (seen : Seen) (body : tree.Pattern)
+pub operands_same : (fields patterns : List (List ℕ)) (params : List Param) (seen : Seen NameFault) (body : tree.Pattern)
     → seen ≡ noted_all none_seen (map (λ p. p.name) params)
     → pattern_faults body (record { fields = fields; patterns = patterns; operands = names_in seen.names })
     ≡ pattern_faults body
@@ -144,16 +147,16 @@ operands_same fields patterns params seen body is =
       patterns = same_names patterns;
       operands = subst (λ s. HasNames s.names (map (λ p. p.name.text) params)) (sym is)
           (subst (HasNames (noted_all none_seen (map (λ p. p.name) params)).names) (param_texts params)
-          (has_seen (map (λ p. p.name) params)));
+          (has_seen token_of rank_of Twice (map (λ p. p.name) params)));
     }) body
 
 -- a loop over items, where the patterns so far are in a table
 pub items_more : (operations fields old new : List (List ℕ)) (items : List Item) (i : ℕ) (x : Item)
     (found this next whole : Option NameFault) → i < length items → x ≡ get_or items i x
-    → SameNames new (old ++ texts_of (pattern_names x)) → this ≡ told (item_faults operations fields old x)
-    → next ≡ told_of_both found this
-    → told_of_both found (told (items_faults operations fields old (drop i items))) ≡ whole
-    → told_of_both next (told (items_faults operations fields new (drop (i + 1) items))) ≡ whole
+    → SameNames new (old ++ texts_of (pattern_names x)) → this ≡ reported (item_faults operations fields old x)
+    → next ≡ reported_of_both found this
+    → reported_of_both found (reported (items_faults operations fields old (drop i items))) ≡ whole
+    → reported_of_both next (reported (items_faults operations fields new (drop (i + 1) items))) ≡ whole
 items_more operations fields old new items i x found this next whole within is same by joined before =
     let own : List NameFault = item_faults operations fields old x in
     let rest : List NameFault = items_faults operations fields (old ++ texts_of (pattern_names x)) (drop (i + 1) items)
@@ -161,9 +164,9 @@ items_more operations fields old new items i x found this next whole within is s
     let here : items_faults operations fields old (drop i items) ≡ own ++ rest =
     at_drop_more (items_faults operations fields old) items i x within
     ∙ ap (λ y. items_faults operations fields old (y ∷ drop (i + 1) items)) (sym is) in
-    ap (λ fs. told_of_both next (told fs))
+    ap (λ fs. reported_of_both next (reported fs))
     (items_same operations operations fields fields (same_names operations) (same_names fields) new
     (old ++ texts_of (pattern_names x)) same (drop (i + 1) items))
-    ∙ ap (λ n. told_of_both n (told rest)) joined ∙ both_assoc found this (told rest)
-    ∙ ap (told_of_both found) (ap (λ n. told_of_both n (told rest)) by ∙ sym (told-append own rest) ∙ sym (ap told here))
+    ∙ ap (λ n. reported_of_both n (reported rest)) joined ∙ both_assoc token_of rank_of found this (reported rest)
+    ∙ ap (reported_of_both found) (ap (λ n. reported_of_both n (reported rest)) by ∙ sym (reported-append token_of rank_of own rest) ∙ sym (ap reported here))
     ∙ before

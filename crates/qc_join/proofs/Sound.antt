@@ -1,26 +1,36 @@
 -- What is kept of what patterns come to: fitting tokens, a claim for each of their bits, and no bit that an operand hasn't.
 use Rattle.std.specs.Prelude.{ℕ, zero, suc, ◌≡◌, ◌+◌, ◌-◌, ◌<◌, ◌≤◌, true, ◌&&◌, nat_eq, nat_lt, nat_le}
-use Rattle.std.specs.Prelude.{List, [], ◌∷◌, ◌++◌, length, map, replicate, sum, Option, None, Some, IsTrue}
+use Rattle.std.specs.Prelude.{List, [], ◌∷◌, ◌++◌, length, map, replicate, sum, count_by, Option, None, Some, IsTrue}
 use Rattle.std.specs.List.{AllByRecursion}
 use Rattle.std.proofs.Common.{refl, ap, sym, ◌∙◌, arith}
 use Rattle.std.proofs.lemmas.Bool.{and_parts, cond_both, eqb-true, leb-true, ltb-true}
 use Rattle.std.proofs.lemmas.Grind.{common_steps}
 use Rattle.std.proofs.lemmas.List.{length-append, length-map, length-replicate, map-append}
+use Rattle.qc_lists.specs.Law.Lists.{each_append}
 use Rattle.qc_descr.specs.declared.coding.Bit.{Bit}
+use Rattle.qc_descr.specs.declared.coding.Bit.TheVariants.{Fixed, Piece}
+use Rattle.qc_descr.specs.Coding.{is_piece}
 use Rattle.qc_descr.specs.declared.sketch.Claim.{Claim}
-use Rattle.qc_descr.specs.declared.sketch.Claim.TheVariants.{Free, Once, Twice}
+use Rattle.qc_descr.specs.declared.sketch.Claim.TheVariants.{Free, Once}
+use Rattle.qc_descr.specs.declared.sketch.Claim.TheVariants as claim
 use Rattle.qc_descr.specs.Valid.{is_token, is_within}
 use Rattle.qc_join.specs.declared.expanded.Expanded.{Expanded}
+use Rattle.qc_join.specs.declared.expanded.Joint.{Joint}
+use Rattle.qc_join.specs.declared.expanded.Joint.TheVariants.{AtOnce, InTurn}
 use Rattle.qc_join.specs.declared.expanded.Expanded.TheVariants.{Several, Unfit, Fit}
 use Rattle.qc_join.specs.declared.expanded.FieldPlace.{FieldPlace}
 use Rattle.qc_join.specs.declared.expanded.TokenUse.{TokenUse}
-use Rattle.qc_join.specs.Alternatives.{both_claim, all_claims, same_tokens, conjoined, sequenced, conjoined_with, sequenced_with, all_conjoined, all_sequenced, one_of, is_field, field_size, claims_in, field_with}
+use Rattle.qc_join.specs.Alternatives.{both_claim, all_claims, with_all, with_bit, same_tokens, conjoined, sequenced, joined, joined_with, all_joined, one_of, is_field, field_size, claims_in, field_with}
+
+-- bits that operands of these sizes have
+abbrev pub AreWithin : List ℕ → List Bit → Type 0
+AreWithin sizes bits = AllByRecursion (λ bit. IsTrue (is_within sizes bit)) bits
 
 -- a claim has only bits that operands of these sizes have
 abbrev pub IsWithinClaim : List ℕ → Claim → Type 0
 IsWithinClaim sizes Free = Unit {0}
 IsWithinClaim sizes (Once bit) = IsTrue (is_within sizes bit)
-IsWithinClaim sizes (Twice first second) = IsTrue (is_within sizes first) × IsTrue (is_within sizes second)
+IsWithinClaim sizes (claim.Several bits) = AreWithin sizes bits
 
 abbrev pub AreWithinClaims : List ℕ → List Claim → Type 0
 AreWithinClaims sizes claims = AllByRecursion (IsWithinClaim sizes) claims
@@ -50,14 +60,30 @@ IsSound declared sizes Several = Unit {0}
 IsSound declared sizes Unfit = Unit {0}
 IsSound declared sizes (Fit tokens claims) = IsSoundFit declared sizes tokens claims
 
+-- one more thing at a bit
+with_bit_within : (sizes : List ℕ) (bits : List Bit) (bit : Bit) → AreWithin sizes bits → IsTrue (is_within sizes bit)
+    → AreWithin sizes (with_bit bits bit)
+with_bit_within sizes bits (Fixed one) h k = h
+with_bit_within sizes bits (Piece operand place) h k =
+    cond_both (nat_lt (count_by (is_piece operand place) bits) 2) (bits ++ Piece operand place ∷ []) bits (AreWithin sizes)
+    (λ e. each_append (λ bit. IsTrue (is_within sizes bit)) bits (Piece operand place ∷ []) h (k, tt)) (λ e. h)
+
+-- several things more
+with_all_within : (sizes : List ℕ) (bits more : List Bit) → AreWithin sizes bits → AreWithin sizes more
+    → AreWithin sizes (with_all bits more)
+with_all_within sizes bits [] h k = h
+with_all_within sizes bits (bit ∷ more) h k = with_all_within sizes (with_bit bits bit) more (with_bit_within sizes bits bit h k.0) k.1
+
 -- two claims on one bit
 both_within : (sizes : List ℕ) (c d : Claim) → IsWithinClaim sizes c → IsWithinClaim sizes d
     → IsWithinClaim sizes (both_claim c d)
 both_within sizes Free d h k = k
 both_within sizes (Once bit) Free h k = h
-both_within sizes (Once bit) (Once other) h k = (h, k)
-both_within sizes (Once bit) (Twice first second) h k = (h, k.0)
-both_within sizes (Twice first second) d h k = h
+both_within sizes (Once bit) (Once other) h k = with_all_within sizes (bit ∷ []) (other ∷ []) (h, tt) (k, tt)
+both_within sizes (Once bit) (claim.Several more) h k = with_all_within sizes (bit ∷ []) more (h, tt) k
+both_within sizes (claim.Several bits) Free h k = h
+both_within sizes (claim.Several bits) (Once other) h k = with_all_within sizes bits (other ∷ []) h (k, tt)
+both_within sizes (claim.Several bits) (claim.Several more) h k = with_all_within sizes bits more h k
 
 -- two lists of claims on the same bits
 all_within : (sizes : List ℕ) (cs ds : List Claim) → AreWithinClaims sizes cs → AreWithinClaims sizes ds
@@ -85,12 +111,6 @@ same_sizes declared (t ∷ ts) (u ∷ us) e h k =
     h.0.own ∙ (ap declared (eqb-true t.declaration u.declaration parts.0) ∙ sym k.0.own) in
     ap (λ n. n ∷ sizes_of_tokens ts) first ∙ ap (λ ns. u.bits ∷ ns) (same_sizes declared ts us parts.1 h.1 k.1)
 
--- two lists one after the other
-pub all_of_both : {A : Type 0} (P : A → Type 0) (xs ys : List A) → AllByRecursion P xs → AllByRecursion P ys
-    → AllByRecursion P (xs ++ ys)
-all_of_both P [] ys h k = k
-all_of_both P (x ∷ xs) ys h k = (h.0, all_of_both P xs ys h.1 k)
-
 -- the sum of two such lists
 sum_of_both : (xs ys : List ℕ) → sum (xs ++ ys) ≡ sum xs + sum ys
 sum_of_both xs ys = grind (arith, common_steps)
@@ -114,14 +134,13 @@ pub sound_conjoined : (declared : ℕ → ℕ) (sizes : List ℕ) (e f : Expande
     → IsSound declared sizes f → IsSound declared sizes (conjoined e f)
 unfolding conjoined
 sound_conjoined declared sizes Several f h k = tt
-sound_conjoined declared sizes Unfit Several h k = tt
-sound_conjoined declared sizes Unfit Unfit h k = tt
-sound_conjoined declared sizes Unfit (Fit us ds) h k = tt
 sound_conjoined declared sizes (Fit ts cs) Several h k = tt
 sound_conjoined declared sizes (Fit ts cs) Unfit h k = tt
 sound_conjoined declared sizes (Fit ts cs) (Fit us ds) h k =
     cond_both (same_tokens ts us) (Fit ts (all_claims cs ds)) Unfit (IsSound declared sizes)
     (λ e. conjoined_fit declared sizes ts us cs ds h k e) (λ e. tt)
+sound_conjoined declared sizes Unfit Several h k = tt
+sound_conjoined declared sizes Unfit _ h k = tt
 
 -- two patterns one after the other
 sequenced_fit : (declared : ℕ → ℕ) (sizes : List ℕ) (ts us : List TokenUse) (cs ds : List Claim)
@@ -132,12 +151,12 @@ sequenced_fit declared sizes ts us cs ds h k e =
     record {
       some_token = omega (arith, length-append ts us, h.some_token);
       few_tokens = omega (arith, length-append ts us, few);
-      each = all_of_both (IsSoundToken declared) ts us h.each k.each;
+      each = each_append (IsSoundToken declared) ts us h.each k.each;
       counts =
           length-append cs ds ∙ (ap (λ n. n + length ds) h.counts ∙ (ap (λ n. sum (sizes_of_tokens ts) + n) k.counts
           ∙ (sym (sum_of_both (sizes_of_tokens ts) (sizes_of_tokens us))
           ∙ sym (ap sum (map-append (λ (t : TokenUse). t.bits) ts us)))));
-      within = all_of_both (IsWithinClaim sizes) cs ds h.within k.within;
+      within = each_append (IsWithinClaim sizes) cs ds h.within k.within;
     }
 
 -- the same, if both fit
@@ -145,44 +164,35 @@ pub sound_sequenced : (declared : ℕ → ℕ) (sizes : List ℕ) (e f : Expande
     → IsSound declared sizes f → IsSound declared sizes (sequenced e f)
 unfolding sequenced
 sound_sequenced declared sizes Several f h k = tt
-sound_sequenced declared sizes Unfit Several h k = tt
-sound_sequenced declared sizes Unfit Unfit h k = tt
-sound_sequenced declared sizes Unfit (Fit us ds) h k = tt
 sound_sequenced declared sizes (Fit ts cs) Several h k = tt
 sound_sequenced declared sizes (Fit ts cs) Unfit h k = tt
 sound_sequenced declared sizes (Fit ts cs) (Fit us ds) h k =
     cond_both (nat_le (length ts + length us) 4) (Fit (ts ++ us) (cs ++ ds)) Unfit (IsSound declared sizes)
     (λ e. sequenced_fit declared sizes ts us cs ds h k e) (λ e. tt)
+sound_sequenced declared sizes Unfit Several h k = tt
+sound_sequenced declared sizes Unfit _ h k = tt
 
 -- lists of patterns
 abbrev pub AreSound : (ℕ → ℕ) → List ℕ → List Expanded → Type 0
 AreSound declared sizes es = AllByRecursion (IsSound declared sizes) es
 
--- several at once, the first with the others after it
-sound_conjoined_with : (declared : ℕ → ℕ) (sizes : List ℕ) (e : Expanded) (fs : List Expanded)
-    → IsSound declared sizes e → AreSound declared sizes fs → IsSound declared sizes (conjoined_with e fs)
-sound_conjoined_with declared sizes e [] h k = h
-sound_conjoined_with declared sizes e (f ∷ fs) h k =
-    sound_conjoined_with declared sizes (conjoined e f) fs (sound_conjoined declared sizes e f h k.0) k.1
+-- two that are put together
+sound_joined : (declared : ℕ → ℕ) (sizes : List ℕ) (how : Joint) (e f : Expanded)
+    → IsSound declared sizes e → IsSound declared sizes f → IsSound declared sizes (joined how e f)
+sound_joined declared sizes AtOnce e f h k = sound_conjoined declared sizes e f h k
+sound_joined declared sizes InTurn e f h k = sound_sequenced declared sizes e f h k
 
--- several one after the other, the first with the others after it
-sound_sequenced_with : (declared : ℕ → ℕ) (sizes : List ℕ) (e : Expanded) (fs : List Expanded)
-    → IsSound declared sizes e → AreSound declared sizes fs → IsSound declared sizes (sequenced_with e fs)
-sound_sequenced_with declared sizes e [] h k = h
-sound_sequenced_with declared sizes e (f ∷ fs) h k =
-    sound_sequenced_with declared sizes (sequenced e f) fs (sound_sequenced declared sizes e f h k.0) k.1
+sound_joined_with : (declared : ℕ → ℕ) (sizes : List ℕ) (how : Joint) (e : Expanded) (fs : List Expanded)
+    → IsSound declared sizes e → AreSound declared sizes fs → IsSound declared sizes (joined_with how e fs)
+sound_joined_with declared sizes how e [] h k = h
+sound_joined_with declared sizes how e (f ∷ fs) h k =
+    sound_joined_with declared sizes how (joined how e f) fs (sound_joined declared sizes how e f h k.0) k.1
 
--- several at once
-pub sound_all_conjoined : (declared : ℕ → ℕ) (sizes : List ℕ) (es : List Expanded) → AreSound declared sizes es
-    → IsSound declared sizes (all_conjoined es)
-sound_all_conjoined declared sizes [] h = tt
-sound_all_conjoined declared sizes (e ∷ es) h = sound_conjoined_with declared sizes e es h.0 h.1
-
--- several one after the other
-pub sound_all_sequenced : (declared : ℕ → ℕ) (sizes : List ℕ) (es : List Expanded) → AreSound declared sizes es
-    → IsSound declared sizes (all_sequenced es)
-sound_all_sequenced declared sizes [] h = tt
-sound_all_sequenced declared sizes (e ∷ es) h = sound_sequenced_with declared sizes e es h.0 h.1
+-- all of a list
+pub sound_all_joined : (declared : ℕ → ℕ) (sizes : List ℕ) (how : Joint) (es : List Expanded)
+    → AreSound declared sizes es → IsSound declared sizes (all_joined how es)
+sound_all_joined declared sizes how [] h = tt
+sound_all_joined declared sizes how (e ∷ es) h = sound_joined_with declared sizes how e es h.0 h.1
 
 -- one of several
 pub sound_one_of : (declared : ℕ → ℕ) (sizes : List ℕ) (es : List Expanded) → AreSound declared sizes es
@@ -195,10 +205,6 @@ sound_one_of declared sizes (e ∷ f ∷ es) h = tt
 all_free : (sizes : List ℕ) (n : ℕ) → AreWithinClaims sizes (replicate n Free)
 all_free sizes zero = tt
 all_free sizes (suc n) = (tt, all_free sizes n)
-
--- bits that operands of these sizes have
-abbrev pub AreWithin : List ℕ → List Bit → Type 0
-AreWithin sizes bits = AllByRecursion (λ b. IsTrue (is_within sizes b)) bits
 
 -- claims of bits in which something stands
 all_once : (sizes : List ℕ) (bits : List Bit) → AreWithin sizes bits → AreWithinClaims sizes (map Once bits)
@@ -242,8 +248,8 @@ sound_field declared sizes f (Some bits) e own h =
       counts =
           length_of_claims f bits (leb-true f.low f.high sized.1) (ltb-true f.high f.bits parts.1) h.0;
       within =
-          all_of_both (IsWithinClaim sizes) (replicate f.low Free) (map Once bits ++ replicate (f.bits - (f.high + 1)) Free)
+          each_append (IsWithinClaim sizes) (replicate f.low Free) (map Once bits ++ replicate (f.bits - (f.high + 1)) Free)
           (all_free sizes f.low)
-          (all_of_both (IsWithinClaim sizes) (map Once bits) (replicate (f.bits - (f.high + 1)) Free)
+          (each_append (IsWithinClaim sizes) (map Once bits) (replicate (f.bits - (f.high + 1)) Free)
           (all_once sizes bits h.1) (all_free sizes (f.bits - (f.high + 1))));
     }

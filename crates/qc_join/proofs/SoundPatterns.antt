@@ -1,12 +1,14 @@
 -- Each pattern comes to what is sound, where the names of its scope do.
 use Rattle.std.specs.Prelude.{ℕ, zero, suc, ◌≡◌, ◌+◌, ◌-◌, ◌/◌, ◌^◌, ◌<◌, ◌≤◌, true, ◌&&◌, nat_eq, nat_lt, nat_le}
-use Rattle.std.specs.Prelude.{cond, List, [], ◌∷◌, ◌++◌, length, map, slice_index, Option, None, Some}
+use Rattle.std.specs.Prelude.{cond, List, [], ◌∷◌, ◌++◌, length, map, slice_index, Option, None, Some, IfSome}
 use Rattle.std.specs.List.{AllByRecursion}
 use Rattle.std.specs.Str.{bytes_eq}
 use Rattle.std.proofs.Common.{refl, ap, sym, ◌∙◌, subst, arith}
 use Rattle.std.proofs.lemmas.Bool.{and_parts, and_from, cond_both, eqb-true, leb-true, ltb-true, lt-ltb, eq-eqb, ne_eqb, cond-true, cond-false}
-use Rattle.qc_text.specs.declared.cursor.Ident.{Ident}
-use Rattle.qc_text.specs.declared.number.Number.{Number}
+use Rattle.qc_lists.specs.Law.Lists.{each_append}
+use Rattle.qc_names.specs.Tables.{named}
+use Rattle.qc_grammar.specs.declared.cursor.Ident.{Ident}
+use Rattle.qc_grammar.specs.declared.cursor.Number.{Number}
 use Rattle.qc_sled.specs.declared.syntax.Field.{Field}
 use Rattle.qc_sled.specs.declared.syntax.Item.{Item}
 use Rattle.qc_sled.specs.declared.syntax.Item.TheVariants.{Fields, Pattern, Constructor}
@@ -16,23 +18,19 @@ use Rattle.qc_sled.specs.declared.syntax.Pattern.TheOpen.{Pattern-F, Name, Equal
 use Rattle.qc_sled.specs.declared.syntax.Value.{Value}
 use Rattle.qc_sled.specs.declared.syntax.Value.TheVariants as value_of
 use Rattle.qc_join.specs.declared.expanded.Expanded.{Expanded}
+use Rattle.qc_join.specs.declared.expanded.Joint.TheVariants.{AtOnce, InTurn}
 use Rattle.qc_join.specs.declared.expanded.Expanded.TheVariants.{Unfit}
 use Rattle.qc_join.specs.declared.expanded.FieldPlace.{FieldPlace}
 use Rattle.qc_join.specs.Alternatives.{constant_bits, piece_bits, is_field, field_size, field_with}
-use Rattle.qc_join.specs.Expansion.{named, places_of, fields_from, fields_of, Scope, whole_operand, part_of_operand, bits_of_value, field_equal, pattern_named, expanded_layer, expanded, patterns_in, patterns_after, patterns_of}
-use Rattle.qc_join.proofs.Sound.{IsSound, AreSound, FillField, all_of_both, sound_all_conjoined, sound_all_sequenced, sound_one_of, sound_field}
-
--- what is there is such
-abbrev pub IfThere : {A : Type 0} → (A → Type 0) → Option A → Type 0
-IfThere P None = Unit {0}
-IfThere P (Some x) = P x
+use Rattle.qc_join.specs.Expansion.{places_of, fields_from, fields_of, Scope, whole_operand, part_of_operand, bits_of_value, field_equal, pattern_named, expanded_layer, expanded, patterns_in, patterns_after, patterns_of}
+use Rattle.qc_join.proofs.Sound.{IsSound, AreSound, FillField, sound_all_joined, sound_one_of, sound_field}
 
 -- what a name stands for is such, where all are
 named_is : {A : Type 0} (P : A → Type 0) (es : List (List ℕ × A)) (name : List ℕ) → AllByRecursion (λ e. P e.1) es
-    → IfThere P (named es name)
+    → IfSome (named es name) P
 named_is P [] name h = tt
 named_is P (e ∷ es) name h =
-    cond_both (bytes_eq name e.0) (Some e.1) (named es name) (IfThere P) (λ is. h.0) (λ is. named_is P es name h.1)
+    cond_both (bytes_eq name e.0) (Some e.1) (named es name) (λ o. IfSome o P) (λ is. h.0) (λ is. named_is P es name h.1)
 
 -- an operand of this number has this size, if it has one
 abbrev pub AgreesSize : List ℕ → ℕ → Option ℕ → Type 0
@@ -77,7 +75,7 @@ pieces_fill sizes operand low (suc n) there h =
     )
 
 -- a whole operand
-whole_fills : (sizes : List ℕ) (o : Option (ℕ × Option ℕ)) (count : ℕ) → IfThere (Agrees sizes) o
+whole_fills : (sizes : List ℕ) (o : Option (ℕ × Option ℕ)) (count : ℕ) → IfSome o (Agrees sizes)
     → FillField sizes count (whole_operand o count)
 whole_fills sizes None count h = tt
 whole_fills sizes (Some (number, None)) count h = tt
@@ -86,7 +84,7 @@ whole_fills sizes (Some (number, Some size)) count h =
     (λ e. pieces_fill sizes number 0 count h.0 (omega (arith, h.1, eqb-true size count e))) (λ e. tt)
 
 -- some bits of an operand
-part_fills : (sizes : List ℕ) (o : Option (ℕ × Option ℕ)) (high low count : ℕ) → IfThere (Agrees sizes) o
+part_fills : (sizes : List ℕ) (o : Option (ℕ × Option ℕ)) (high low count : ℕ) → IfSome o (Agrees sizes)
     → FillField sizes count (part_of_operand o high low count)
 part_fills sizes None high low count h = tt
 part_fills sizes (Some (number, None)) high low count h = tt
@@ -119,7 +117,7 @@ value_fills declared sizes scope h (value_of.Bits name high low) count =
 
 -- a field that is equal to a value
 equal_is : (declared : ℕ → ℕ) (sizes : List ℕ) (scope : Scope) → IsSoundScope declared sizes scope
-    → (field : Option FieldPlace) (value : Value) → IfThere (IsOwnField declared) field
+    → (field : Option FieldPlace) (value : Value) → IfSome field (IsOwnField declared)
     → IsSound declared sizes (field_equal scope field value)
 equal_is declared sizes scope h None value own = tt
 equal_is declared sizes scope h (Some f) value own =
@@ -129,7 +127,7 @@ equal_is declared sizes scope h (Some f) value own =
     (λ e. tt)
 
 -- a pattern with a name
-pattern_is : (declared : ℕ → ℕ) (sizes : List ℕ) (e : Option Expanded) → IfThere (IsSound declared sizes) e
+pattern_is : (declared : ℕ → ℕ) (sizes : List ℕ) (e : Option Expanded) → IfSome e (IsSound declared sizes)
     → IsSound declared sizes (pattern_named e)
 pattern_is declared sizes None h = tt
 pattern_is declared sizes (Some e) h = h
@@ -161,10 +159,10 @@ module _ (declared : ℕ → ℕ) (sizes : List ℕ) where
       (named_is (IsOwnField declared) scope.fields field.text h.fields)
   sound_step (Group token a) = λ scope h. a.1 scope h
   sound_step (Conjunction parts) = λ scope h.
-      sound_all_conjoined declared sizes (map (λ meaning. meaning scope) (map expanded (map (λ a. a.0) parts)))
+      sound_all_joined declared sizes AtOnce (map (λ meaning. meaning scope) (map expanded (map (λ a. a.0) parts)))
       (parts_are parts scope h)
   sound_step (Sequence parts) = λ scope h.
-      sound_all_sequenced declared sizes (map (λ meaning. meaning scope) (map expanded (map (λ a. a.0) parts)))
+      sound_all_joined declared sizes InTurn (map (λ meaning. meaning scope) (map expanded (map (λ a. a.0) parts)))
       (parts_are parts scope h)
   sound_step (Alternatives parts) = λ scope h.
       sound_one_of declared sizes (map (λ meaning. meaning scope) (map expanded (map (λ a. a.0) parts)))
@@ -227,7 +225,7 @@ places_are first bits items e (f ∷ fields) =
 fields_are : (first : ℕ) (items : List Item) → AllByRecursion (λ e. IsFieldFrom first items e.1) (fields_from first items)
 fields_are first [] = tt
 fields_are first (Fields token name bits fields ∷ items) =
-    all_of_both (λ e. IsFieldFrom first (Fields token name bits fields ∷ items) e.1) (places_of first bits.value fields)
+    each_append (λ e. IsFieldFrom first (Fields token name bits fields ∷ items) e.1) (places_of first bits.value fields)
     (fields_from (suc first) items)
     (places_are first bits.value (Fields token name bits fields ∷ items)
     (sym (cond-true (nat_eq first first) bits.value (bits_from (suc first) items first) (eq-eqb first first refl))) fields)
@@ -271,7 +269,7 @@ patterns_after_are : (declared : ℕ → ℕ) (sizes : List ℕ) (fields : List 
 patterns_after_are declared sizes fields own patterns h [] = h
 patterns_after_are declared sizes fields own patterns h (i ∷ items) =
     patterns_after_are declared sizes fields own (patterns ++ patterns_in fields patterns i)
-    (all_of_both (λ e. IsSound declared sizes e.1) patterns (patterns_in fields patterns i) h
+    (each_append (λ e. IsSound declared sizes e.1) patterns (patterns_in fields patterns i) h
     (patterns_are declared sizes fields own patterns h i))
     items
 

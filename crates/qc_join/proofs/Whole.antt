@@ -1,19 +1,22 @@
 -- The parts that a machine and a text make are whole.
 use Rattle.std.specs.Prelude.{ℕ, zero, suc, ◌≡◌, ◌<◌, true, false, ◌&&◌, List, [], ◌∷◌, length, map, drop}
-use Rattle.std.specs.Prelude.{slice_index, ◌⊎◌, Option, None, Some, is_some}
+use Rattle.std.specs.Prelude.{slice_index, ◌⊎◌, Option, None, Some, IfSome, is_some}
 use Rattle.std.specs.List.{AllByRecursion, flat_map, list_all}
 use Rattle.std.proofs.Common.{refl, sym, ◌∙◌, subst, arith, inl, inr}
 use Rattle.std.proofs.lemmas.Bool.{and_from, cond_both}
 use Rattle.std.proofs.lemmas.List.{length-map}
 use Rattle.std.proofs.lemmas.List.Elements.{All-nil, All-cons}
 use Rattle.std.proofs.lemmas.List.Folds.{list_all-append}
+use Rattle.qc_names.specs.Tables.{named}
 use Rattle.qc_sled.specs.declared.syntax.Item.{Item}
 use Rattle.qc_descr.specs.declared.coding.Reach.{Reach}
+use Rattle.qc_descr.specs.declared.coding.Bit.{Bit}
 use Rattle.qc_descr.specs.declared.description.OperandKind.{OperandKind}
 use Rattle.qc_descr.specs.declared.description.Space.{Space}
 use Rattle.qc_descr.specs.declared.parts.Operation.{Operation}
 use Rattle.qc_descr.specs.declared.sketch.Claim.{Claim}
-use Rattle.qc_descr.specs.declared.sketch.Claim.TheVariants.{Free, Once, Twice}
+use Rattle.qc_descr.specs.declared.sketch.Claim.TheVariants.{Free, Once}
+use Rattle.qc_descr.specs.declared.sketch.Claim.TheVariants as claim
 use Rattle.qc_descr.specs.declared.sketch.Sketch.{Sketch}
 use Rattle.qc_descr.specs.CodingFaults.{Operands, bits_of_claims, before_sizes, claimed_bits, operand_size, operand_sizes, operands_of, operation_kinds}
 use Rattle.qc_descr.specs.Making.{IsFit, AreSketches, AreSketched, AreWholeParts}
@@ -23,10 +26,10 @@ use Rattle.qc_join.specs.declared.expanded.Expanded.{Expanded}
 use Rattle.qc_join.specs.declared.expanded.Expanded.TheVariants.{Several, Unfit, Fit}
 use Rattle.qc_join.specs.declared.expanded.TokenUse.{TokenUse}
 use Rattle.qc_widths.specs.declared.machine.Machine.{Machine}
-use Rattle.qc_join.specs.Expansion.{Scope, expanded, fields_of, named, patterns_of}
+use Rattle.qc_join.specs.Expansion.{Scope, expanded, fields_of, patterns_of}
 use Rattle.qc_join.specs.Joining.{ConstructorOf, constructors_in, are_operands, misfit_sketch, named_operands, parts_of, reaches_of, sketches_by, sketches_from, sketches_of, sketches_of_constructor}
-use Rattle.qc_join.proofs.Sound.{AreSoundTokens, AreWithinClaims, IsSound, IsSoundFit, IsWithinClaim, sizes_of_tokens}
-use Rattle.qc_join.proofs.SoundPatterns.{Agrees, AgreesSize, IfThere, bits_declared, own_fields, sound_pattern, sound_patterns}
+use Rattle.qc_join.proofs.Sound.{AreSoundTokens, AreWithin, AreWithinClaims, IsSound, IsSoundFit, IsWithinClaim, sizes_of_tokens}
+use Rattle.qc_join.proofs.SoundPatterns.{Agrees, AgreesSize, bits_declared, own_fields, sound_pattern, sound_patterns}
 
 -- the first number of those that are left, and what is left behind it
 dropped_first : (number : ℕ) (all : List ℕ) (n : ℕ) (ns : List ℕ) → drop number all ≡ n ∷ ns
@@ -65,12 +68,16 @@ tokens_fit declared [] h = refl
 tokens_fit declared (t ∷ tokens) h =
     and_from (is_token t.bits) (list_all is_token (sizes_of_tokens tokens)) h.0.size (tokens_fit declared tokens h.1)
 
+-- bits that operands have pass the test
+bits_fit : (sizes : List ℕ) (bits : List Bit) → AreWithin sizes bits → list_all (is_within sizes) bits ≡ true
+bits_fit sizes [] h = refl
+bits_fit sizes (bit ∷ bits) h = and_from (is_within sizes bit) (list_all (is_within sizes) bits) h.0 (bits_fit sizes bits h.1)
+
 -- the bits of claims are bits that operands have
 claim_fits : (sizes : List ℕ) (c : Claim) → IsWithinClaim sizes c → list_all (is_within sizes) (claimed_bits c) ≡ true
 claim_fits sizes Free h = refl
 claim_fits sizes (Once bit) h = and_from (is_within sizes bit) true h refl
-claim_fits sizes (Twice first second) h =
-    and_from (is_within sizes first) (is_within sizes second && true) h.0 (and_from (is_within sizes second) true h.1 refl)
+claim_fits sizes (claim.Several bits) h = bits_fit sizes bits h
 
 -- the same of all claims
 claims_fit : (sizes : List ℕ) (claims : List Claim) → AreWithinClaims sizes claims
@@ -98,7 +105,7 @@ fit declared o reaches sizes e tokens claims h =
       within = claims_fit sizes claims h.within;
     }
 
--- told to be misfit, or fit
+-- reported to be misfit, or fit
 abbrev IsEither : Operands → Sketch → Type 0
 IsEither o s = (s.misfit ≡ true) ⊎ IsFit o s
 
@@ -115,7 +122,7 @@ misfit o reaches = one_alternative o (misfit_sketch reaches) (inl refl)
 -- the alternatives of what a pattern comes to, sound where all operands have sizes
 sketches_fit : (declared : ℕ → ℕ) (o : Operands) (reaches : List Reach) (sizes : Option (List ℕ))
     → operand_sizes o.word o.spaces o.kinds reaches ≡ sizes → (e : Expanded)
-    → IfThere (λ ns. IsSound declared ns e) sizes → AreSketches o (sketches_from reaches (is_some sizes) e)
+    → IfSome sizes (λ ns. IsSound declared ns e) → AreSketches o (sketches_from reaches (is_some sizes) e)
 sketches_fit declared o reaches sizes same Several h = no_alternative o
 sketches_fit declared o reaches sizes same Unfit h = misfit o reaches
 sketches_fit declared o reaches None same (Fit tokens claims) h = misfit o reaches
@@ -125,7 +132,7 @@ sketches_fit declared o reaches (Some ns) same (Fit tokens claims) h =
     (inr (fit declared o reaches ns same tokens claims h))
 
 -- what is such in each case that it is there
-if_there : {A : Type 0} (P : A → Type 0) (x : Option A) → ((a : A) → x ≡ Some a → P a) → IfThere P x
+if_there : {A : Type 0} (P : A → Type 0) (x : Option A) → ((a : A) → x ≡ Some a → P a) → IfSome x P
 if_there P None h = tt
 if_there P (Some a) h = h a refl
 
@@ -168,6 +175,6 @@ sketched machine items (o ∷ os) =
     (of_constructor machine items o (named (flat_map constructors_in items) o.name), sketched machine items os)
 
 -- The parts of a machine with the codings of a text are whole.
-pub whole : (machine : Machine) (items : List Item) → AreParts machine.given machine.spaces machine.operations
+pub whole : (machine : Machine) (items : List Item) → AreParts machine.name machine.given machine.spaces machine.operations
     → AreWholeParts (parts_of machine items)
 whole machine items h = record { parts = h; sketched = sketched machine items machine.operations }

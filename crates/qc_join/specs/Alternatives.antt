@@ -1,23 +1,40 @@
 -- What patterns come to when they are put together.
-use Rattle.std.specs.Prelude.{ℕ, zero, suc, ◌+◌, ◌-◌, ◌/◌, ◌%◌, List, [], ◌∷◌, ◌++◌, length, map, replicate}
+use Rattle.std.specs.Prelude.{ℕ, zero, suc, ◌+◌, ◌-◌, ◌/◌, ◌%◌, List, [], ◌∷◌, ◌++◌, length, map, replicate, count_by}
 use Rattle.std.specs.Prelude.{Bool, true, false, ◌&&◌, nat_eq, nat_lt, nat_le, if◌then◌else◌, Option, None, Some}
 use Rattle.qc_descr.specs.declared.coding.Bit.{Bit}
 use Rattle.qc_descr.specs.declared.coding.Bit.TheVariants.{Fixed, Piece}
 use Rattle.qc_descr.specs.declared.sketch.Claim.{Claim}
-use Rattle.qc_descr.specs.declared.sketch.Claim.TheVariants.{Free, Once, Twice}
+use Rattle.qc_descr.specs.declared.sketch.Claim.TheVariants.{Free, Once}
+use Rattle.qc_descr.specs.declared.sketch.Claim.TheVariants as claim
+use Rattle.qc_descr.specs.Coding.{is_piece}
 use Rattle.qc_descr.specs.Valid.{is_token}
 use Rattle.qc_join.specs.declared.expanded.Expanded.{Expanded}
 use Rattle.qc_join.specs.declared.expanded.Expanded.TheVariants.{Several, Unfit, Fit}
 use Rattle.qc_join.specs.declared.expanded.FieldPlace.{FieldPlace}
+use Rattle.qc_join.specs.declared.expanded.Joint.{Joint}
+use Rattle.qc_join.specs.declared.expanded.Joint.TheVariants.{AtOnce, InTurn}
 use Rattle.qc_join.specs.declared.expanded.TokenUse.{TokenUse}
+
+-- One more thing that stands at a bit where something does. A bit of an operand is listed twice at most, which tells that
+-- it stands more than once. A constant bit is listed no more: that several claims are there tells enough.
+abbrev pub with_bit : List Bit → Bit → List Bit
+with_bit bits (Fixed one) = bits
+with_bit bits (Piece operand place) =
+    if nat_lt (count_by (is_piece operand place) bits) 2 then bits ++ Piece operand place ∷ [] else bits
+
+abbrev pub with_all : List Bit → List Bit → List Bit
+with_all bits [] = bits
+with_all bits (bit ∷ more) = with_all (with_bit bits bit) more
 
 -- two claims on one bit
 abbrev pub both_claim : Claim → Claim → Claim
 both_claim Free d = d
 both_claim (Once bit) Free = Once bit
-both_claim (Once bit) (Once other) = Twice bit other
-both_claim (Once bit) (Twice first second) = Twice bit first
-both_claim (Twice first second) d = Twice first second
+both_claim (Once bit) (Once other) = claim.Several (with_all (bit ∷ []) (other ∷ []))
+both_claim (Once bit) (claim.Several more) = claim.Several (with_all (bit ∷ []) more)
+both_claim (claim.Several bits) Free = claim.Several bits
+both_claim (claim.Several bits) (Once other) = claim.Several (with_all bits (other ∷ []))
+both_claim (claim.Several bits) (claim.Several more) = claim.Several (with_all bits more)
 
 -- two lists of claims on the same bits
 abbrev pub all_claims : List Claim → List Claim → List Claim
@@ -25,7 +42,7 @@ all_claims [] ds = ds
 all_claims (c ∷ cs) [] = c ∷ cs
 all_claims (c ∷ cs) (d ∷ ds) = both_claim c d ∷ all_claims cs ds
 
--- the same tokens by their declarations
+-- two lists of tokens are the same by their declarations
 abbrev pub same_tokens : List TokenUse → List TokenUse → Bool
 same_tokens [] [] = true
 same_tokens (t ∷ ts) (u ∷ us) = nat_eq t.declaration u.declaration && same_tokens ts us
@@ -53,23 +70,20 @@ sequenced (Fit ts cs) Unfit = Unfit
 sequenced (Fit ts cs) (Fit us ds) =
     if nat_le (length ts + length us) 4 then Fit (ts ++ us) (cs ++ ds) else Unfit
 
--- several patterns, the first with all others after it
-abbrev pub conjoined_with : Expanded → List Expanded → Expanded
-conjoined_with e [] = e
-conjoined_with e (f ∷ fs) = conjoined_with (conjoined e f) fs
+-- two patterns that are put together
+abbrev pub joined : Joint → Expanded → Expanded → Expanded
+joined AtOnce e f = conjoined e f
+joined InTurn e f = sequenced e f
 
-abbrev pub sequenced_with : Expanded → List Expanded → Expanded
-sequenced_with e [] = e
-sequenced_with e (f ∷ fs) = sequenced_with (sequenced e f) fs
+-- a pattern with all others after it
+abbrev pub joined_with : Joint → Expanded → List Expanded → Expanded
+joined_with how e [] = e
+joined_with how e (f ∷ fs) = joined_with how (joined how e f) fs
 
 -- No pattern at all doesn't stand in a text.
-abbrev pub all_conjoined : List Expanded → Expanded
-all_conjoined [] = Unfit
-all_conjoined (e ∷ es) = conjoined_with e es
-
-abbrev pub all_sequenced : List Expanded → Expanded
-all_sequenced [] = Unfit
-all_sequenced (e ∷ es) = sequenced_with e es
+abbrev pub all_joined : Joint → List Expanded → Expanded
+all_joined how [] = Unfit
+all_joined how (e ∷ es) = joined_with how e es
 
 -- A choice of one part is that part. More are several alternatives, of which none is looked at.
 abbrev pub one_of : List Expanded → Expanded

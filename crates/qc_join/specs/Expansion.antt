@@ -1,7 +1,7 @@
 -- What the patterns of a coding's text come to.
 use Rattle.std.specs.Prelude.{ℕ, suc, ◌+◌, ◌-◌, ◌^◌, List, [], ◌∷◌, ◌++◌, cond, map}
 use Rattle.std.specs.Prelude.{Bool, ◌&&◌, nat_eq, nat_lt, nat_le, if◌then◌else◌, Option, None, Some}
-use Rattle.std.specs.Str.{bytes_eq}
+use Rattle.qc_names.specs.Tables.{named}
 use Rattle.qc_sled.specs.declared.syntax.Field.{Field}
 use Rattle.qc_sled.specs.declared.syntax.Item.{Item}
 use Rattle.qc_sled.specs.declared.syntax.Item.TheVariants.{Fields, Pattern, Constructor}
@@ -14,12 +14,8 @@ use Rattle.qc_descr.specs.declared.coding.Bit.{Bit}
 use Rattle.qc_join.specs.declared.expanded.Expanded.{Expanded}
 use Rattle.qc_join.specs.declared.expanded.Expanded.TheVariants.{Unfit}
 use Rattle.qc_join.specs.declared.expanded.FieldPlace.{FieldPlace}
-use Rattle.qc_join.specs.Alternatives.{all_conjoined, all_sequenced, one_of, constant_bits, piece_bits, is_field, field_size, field_with}
-
--- what the first of these names that is equal to the name stands for
-abbrev pub named : {A : Type 0} → List (List ℕ × A) → List ℕ → Option A
-named [] name = None
-named (e ∷ es) name = cond (bytes_eq name e.0) (Some e.1) (named es name)
+use Rattle.qc_join.specs.declared.expanded.Joint.TheVariants.{AtOnce, InTurn}
+use Rattle.qc_join.specs.Alternatives.{all_joined, one_of, constant_bits, piece_bits, is_field, field_size, field_with}
 
 -- the fields of one item of this number, whose token has so many bits
 abbrev pub places_of : ℕ → ℕ → List Field → List (List ℕ × FieldPlace)
@@ -85,8 +81,8 @@ abbrev pub expanded_layer : Pattern-F (Scope → Expanded) → Scope → Expande
 expanded_layer (Name name) scope = pattern_named (named scope.patterns name.text)
 expanded_layer (Equal field value) scope = field_equal scope (named scope.fields field.text) value
 expanded_layer (Group token inner) scope = inner scope
-expanded_layer (Conjunction parts) scope = all_conjoined (map (λ expanded. expanded scope) parts)
-expanded_layer (Sequence parts) scope = all_sequenced (map (λ expanded. expanded scope) parts)
+expanded_layer (Conjunction parts) scope = all_joined AtOnce (map (λ expanded. expanded scope) parts)
+expanded_layer (Sequence parts) scope = all_joined InTurn (map (λ expanded. expanded scope) parts)
 expanded_layer (Alternatives parts) scope = one_of (map (λ expanded. expanded scope) parts)
 
 -- what a pattern comes to where names stand for this

@@ -1,5 +1,6 @@
--- Which of several faults among names is told.
-use Rattle.std.specs.Prelude.{ℕ, Bool, ◌&&◌, ◌||◌, nat_eq, nat_lt, if◌then◌else◌, List, [], ◌∷◌, Option, None, Some}
+-- Which of several faults among names is reported, and as which public fault.
+use Rattle.std.specs.Prelude.{ℕ, List, Option}
+use Rattle.qc_names.specs.Reported as faults
 use Rattle.qc_join.specs.declared.faults.NameFault.{NameFault}
 use Rattle.qc_join.specs.declared.faults.NameFault.TheVariants.{Unknown, Twice}
 use Rattle.qc_join.specs.declared.faults.JoinFault.{JoinFault}
@@ -14,25 +15,13 @@ abbrev pub rank_of : NameFault → ℕ
 rank_of (Unknown token) = 0
 rank_of (Twice token) = 1
 
--- the fault is at a smaller token than the other, or at the same one and of a sort that comes first
-abbrev pub comes_before : NameFault → NameFault → Bool
-comes_before f g =
-    nat_lt (token_of f) (token_of g) || (nat_eq (token_of f) (token_of g) && nat_lt (rank_of f) (rank_of g))
+-- the fault that is reported of those of two lists, by what is reported of each
+abbrev pub reported_of_both : Option NameFault → Option NameFault → Option NameFault
+reported_of_both = faults.reported_of_both token_of rank_of
 
--- a fault, or one that is listed after it and comes before it
-abbrev pub told_of_two : NameFault → Option NameFault → NameFault
-told_of_two f None = f
-told_of_two f (Some g) = if comes_before g f then g else f
-
--- the fault that is told of those of two lists, by what is told of each
-abbrev pub told_of_both : Option NameFault → Option NameFault → Option NameFault
-told_of_both None g = g
-told_of_both (Some f) g = Some (told_of_two f g)
-
--- The fault that is told of a list: that of the least token, at one token an unknown name.
-abbrev pub told : List NameFault → Option NameFault
-told [] = None
-told (f ∷ fs) = Some (told_of_two f (told fs))
+-- The fault that is reported of a list: that of the least token, at one token an unknown name.
+abbrev pub reported : List NameFault → Option NameFault
+reported = faults.reported token_of rank_of
 
 -- the public fault
 abbrev pub fault_of_name : NameFault → JoinFault

@@ -1,4 +1,4 @@
--- The description that a machine and a coding's text make, or the fault that is told.
+-- The description that a machine and a coding's text make, or the fault that is reported.
 use Rattle.std.specs.Prelude.{ℕ, suc, ◌≡◌, ◌&&◌, Bool, true, false, if◌then◌else◌, List, [], ◌∷◌, map, min}
 use Rattle.std.specs.Prelude.{Option, None, Some, is_some}
 use Rattle.std.specs.List.{flat_map}
@@ -6,6 +6,7 @@ use Rattle.std.specs.Option.{option_map}
 use Rattle.std.specs.Str.{bytes_eq}
 use Rattle.std.specs.declared.result.Result.{Result}
 use Rattle.std.specs.declared.result.Result.TheVariants.{Ok, Err}
+use Rattle.qc_names.specs.Tables.{named}
 use Rattle.qc_descr.specs.declared.coding.Reach.{Reach}
 use Rattle.qc_descr.specs.declared.coding.Reach.TheVariants.{Plain, Relative, Absolute}
 use Rattle.qc_descr.specs.declared.description.Description.{Description}
@@ -31,8 +32,8 @@ use Rattle.qc_join.specs.declared.faults.JoinEnd.TheVariants.{Fault, NoMemory}
 use Rattle.qc_join.specs.declared.faults.JoinFault.{JoinFault}
 use Rattle.qc_join.specs.declared.faults.JoinFault.TheVariants.{UnknownName, TwiceNamed, Descr}
 use Rattle.qc_widths.specs.declared.machine.Machine.{Machine}
-use Rattle.qc_join.specs.Expansion.{expanded, fields_of, named, patterns_of}
-use Rattle.qc_join.specs.Faults.{fault_of_name, told}
+use Rattle.qc_join.specs.Expansion.{expanded, fields_of, patterns_of}
+use Rattle.qc_join.specs.Faults.{fault_of_name, reported}
 use Rattle.qc_join.specs.Names.{name_faults}
 
 -- a constructor: its parameters and its pattern
@@ -52,7 +53,7 @@ are_operands (o ∷ os) (p ∷ ps) = bytes_eq p.name.text o.0 && are_operands os
 are_operands [] (p ∷ ps) = false
 are_operands (o ∷ os) [] = false
 
--- A parameter's reach. Numbers of bits above 255 are told as 255, which is more than any word has.
+-- A parameter's reach. Numbers of bits above 255 are reported as 255, which is more than any word has.
 abbrev pub reach_of : Option written.Reach → Reach
 reach_of None = Plain
 reach_of (Some (reach.Relative token bits)) = Relative (min bits.value 255)
@@ -73,7 +74,7 @@ named_operands word spaces number (o ∷ os) (r ∷ reaches) =
 abbrev pub misfit_sketch : List Reach → Sketch
 misfit_sketch reaches = record { tokens = []; claims = []; reaches = reaches; misfit = true }
 
--- The alternatives of what a pattern comes to: of several none is told. One fits where all operands have a size too.
+-- The alternatives of what a pattern comes to: of several none is reported. One fits where all operands have a size too.
 abbrev pub sketches_from : List Reach → Bool → Expanded → List Sketch
 sketches_from reaches sized Several = []
 sketches_from reaches sized Unfit = misfit_sketch reaches ∷ []
@@ -111,11 +112,11 @@ parts_of machine items = record {
   sketches = map (sketches_of machine items) machine.operations;
 }
 
--- the fault among names that is told of a text
+-- the fault among names that is reported of a text
 abbrev pub name_fault : Machine → RawCoding → Option JoinFault
 name_fault machine raw =
     option_map fault_of_name
-    (told (name_faults machine.name (map (λ o. o.name) machine.operations) raw))
+    (reported (name_faults machine.name (map (λ o. o.name) machine.operations) raw))
 
 -- The answer to parts, as that to a text.
 abbrev pub JoinsParts : Parts → Result Description JoinEnd → Type 0

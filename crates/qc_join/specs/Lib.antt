@@ -1,9 +1,6 @@
 pub mod Alternatives
-pub mod Constructors
-pub mod Declarations
-pub mod Expanding
 pub mod Expansion
 pub mod Faults
+pub mod Inner
 pub mod Joining
-pub mod NameSets
 pub mod Names

@@ -1,9 +1,13 @@
 -- The faults of a coding's text among names. Tokens, fields, patterns and constructors are names of four kinds, and so
 -- are the parameters of each constructor.
-use Rattle.std.specs.Prelude.{ℕ, Bool, if◌then◌else◌, List, [], ◌∷◌, ◌++◌, map}
-use Rattle.std.specs.List.{flat_map, list_any}
+use Rattle.std.specs.Prelude.{ℕ, Bool, List, [], ◌∷◌, ◌++◌, map}
+use Rattle.std.specs.List.{flat_map}
 use Rattle.std.specs.Str.{bytes_eq}
-use Rattle.qc_text.specs.declared.cursor.Ident.{Ident}
+use Rattle.qc_grammar.specs.declared.cursor.Ident.{Ident}
+use Rattle.qc_names.specs.Reported as faults
+use Rattle.qc_names.specs.Seen as seen
+use Rattle.qc_names.specs.Seen.{texts_of}
+use Rattle.qc_names.specs.Tables.{is_among}
 use Rattle.qc_sled.specs.declared.syntax.Item.{Item}
 use Rattle.qc_sled.specs.declared.syntax.Item.TheVariants.{Fields, Pattern, Constructor}
 use Rattle.qc_sled.specs.declared.syntax.Pattern as tree
@@ -15,51 +19,30 @@ use Rattle.qc_sled.specs.declared.syntax.Value.TheVariants as value_of
 use Rattle.qc_join.specs.declared.faults.NameFault.{NameFault}
 use Rattle.qc_join.specs.declared.faults.NameFault.TheVariants.{Unknown, Twice}
 
--- the name is one of these
-abbrev pub is_among : List (List ℕ) → List ℕ → Bool
-is_among names name = list_any (bytes_eq name) names
-
 -- the names that an item declares, by their kinds
 abbrev pub token_names : Item → List Ident
 token_names (Fields token name bits fields) = name ∷ []
-token_names (Pattern token name body) = []
-token_names (Constructor token name params body) = []
+token_names _ = []
 
 abbrev pub field_names : Item → List Ident
 field_names (Fields token name bits fields) = map (λ f. f.name) fields
-field_names (Pattern token name body) = []
-field_names (Constructor token name params body) = []
+field_names _ = []
 
 abbrev pub pattern_names : Item → List Ident
-pattern_names (Fields token name bits fields) = []
 pattern_names (Pattern token name body) = name ∷ []
-pattern_names (Constructor token name params body) = []
+pattern_names _ = []
 
 abbrev pub constructor_names : Item → List Ident
-constructor_names (Fields token name bits fields) = []
-constructor_names (Pattern token name body) = []
 constructor_names (Constructor token name params body) = name ∷ []
-
-abbrev pub param_names : Item → List Ident
-param_names (Fields token name bits fields) = []
-param_names (Pattern token name body) = []
-param_names (Constructor token name params body) = map (λ p. p.name) params
-
-abbrev pub texts_of : List Ident → List (List ℕ)
-texts_of names = map (λ n. n.text) names
+constructor_names _ = []
 
 -- the fault of a use of a name, unless that is known
 abbrev pub unknown_unless : Bool → ℕ → List NameFault
-unknown_unless known token = if known then [] else Unknown token ∷ []
-
--- the fault of a declaration of a name, if it was seen
-abbrev pub twice_if : Bool → ℕ → List NameFault
-twice_if seen token = if seen then Twice token ∷ [] else []
+unknown_unless = faults.unknown_unless Unknown
 
 -- the second declarations among names of one kind, behind those that were seen
 abbrev pub second_names : List (List ℕ) → List Ident → List NameFault
-second_names seen [] = []
-second_names seen (n ∷ names) = twice_if (is_among seen n.text) n.token ++ second_names (seen ++ n.text ∷ []) names
+second_names = seen.second_names Twice
 
 -- the names that a pattern may use: all fields, the patterns before it, and the operands of its constructor
 pub record Names : Type 0 where
@@ -85,7 +68,7 @@ faults_layer (Alternatives parts) names = flat_map (λ faults. faults names) par
 unfoldable pub pattern_faults : tree.Pattern → Names → List NameFault
 pattern_faults = fold-Pattern (Names → List NameFault) faults_layer
 
--- the same of an item's own names: of a constructor its name, which is to be an operation's, and its parameters
+-- the faults of an item's own names: of a constructor its name, which is to be an operation's, and its parameters
 abbrev pub item_faults : List (List ℕ) → List (List ℕ) → List (List ℕ) → Item → List NameFault
 item_faults operations fields patterns (Fields token name bits parts) = []
 item_faults operations fields patterns (Pattern token name body) =
@@ -96,7 +79,7 @@ item_faults operations fields patterns (Constructor token name params body) =
     ++ pattern_faults body
     (record { fields = fields; patterns = patterns; operands = map (λ p. p.name.text) params }))
 
--- the same of items, behind these patterns
+-- the faults of the own names of items, behind these patterns
 abbrev pub items_faults : List (List ℕ) → List (List ℕ) → List (List ℕ) → List Item → List NameFault
 items_faults operations fields patterns [] = []
 items_faults operations fields patterns (i ∷ items) =

@@ -2,52 +2,119 @@
 ghost use Rattle.std.specs.Prelude.{◌≡◌, ◌↔◌, ◌+◌, ◌<◌, ◌++◌, IfOk, OnOk, IsTrue, map, replicate, Some, nat_le, List, length, take};
 ghost use Rattle.qc_descr.specs.declared.sketch.Claim.TheVariants as claim;
 ghost use Rattle.qc_descr.specs.declared.sketch.Claim.{Claim};
-ghost use Rattle.qc_join.specs.Alternatives.{both_claim, all_claims, same_tokens, conjoined, sequenced};
+ghost use Rattle.qc_descr.specs.CodingFaults.{claimed_bits};
+ghost use Rattle.qc_join.specs.Alternatives.{both_claim, all_claims, with_all, with_bit, same_tokens, conjoined, sequenced};
 ghost use Rattle.qc_join.specs.Alternatives.{constant_bits, piece_bits, is_field, claims_in, field_with};
 
 use crate::expanded::{Expanded, FieldPlace, TokenUse};
-use qc_descr::{Bit, Claim};
+use qc_descr::{Bit, Claim, pieces_among};
 use sqlite_items::Items;
 use std::alloc::{AllocError, Global};
 
-/// Two claims on one bit.
-fn both_claims(first: &Claim, second: &Claim) -> Claim
-    ensures { result ≡ both_claim first.now second.now }
+/// Adds what stands at a bit to what stands there already, a bit of an operand twice at most.
+fn push_bit(bits: &mut Items<Bit>, bit: Bit) -> Result<(), AllocError>
+    ensures { OnOk result (bits.new ≡ with_bit bits.old bit) }
 {
-    match (first, second) {
-        (Claim::Free, _) => *second,
-        (Claim::Once { bit }, Claim::Once { bit: other } | Claim::Twice { first: other, .. }) => {
-            Claim::Twice {
-                first: *bit,
-                second: *other,
+    match bit {
+        Bit::Fixed { .. } => Ok(()),
+        Bit::Piece {
+            operand,
+            bit: place,
+        } => {
+            if pieces_among(operand, place, bits.as_slice()) < 2 {
+                bits.push(bit)?;
             }
+            Ok(())
         }
-        _ => *first,
     }
 }
 
-/// Whether a claim stays what it is when a second one on its bit is joined to it. Most do: each changes twice at most,
-/// however many are joined to it.
-fn is_kept(first: &Claim, second: &Claim) -> bool
-    ensures { IsTrue result ↔ (both_claim first.now second.now ≡ first.now) }
+/// Adds several things that stand at a bit.
+fn push_all(bits: &mut Items<Bit>, more: &[Bit]) -> Result<(), AllocError>
+    ensures { OnOk result (bits.new ≡ with_all bits.old more.now) }
 {
-    matches!((first, second), (Claim::Twice { .. }, _) | (_, Claim::Free))
+    for bit in more {
+        push_bit(bits, *bit)?;
+    }
+    Ok(())
+}
+
+/// What a claim lists.
+fn claimed_bits(alloc: Global, claim: &Claim) -> Result<Items<Bit>, AllocError>
+    ensures { IfOk result (λ bits. bits ≡ claimed_bits claim.now) }
+{
+    match claim {
+        Claim::Free => Ok(Items::new(alloc)),
+        Claim::Once { bit } => Items::from_slice(alloc, &[*bit]),
+        Claim::Several { bits } => Items::from_slice(alloc, bits.as_slice()),
+    }
+}
+
+/// A copy of a claim.
+fn copied_claim(alloc: Global, claim: &Claim) -> Result<Claim, AllocError>
+    ensures { IfOk result (λ copy. copy ≡ claim.now) }
+{
+    match claim {
+        Claim::Free => Ok(Claim::Free),
+        Claim::Once { bit } => Ok(Claim::Once { bit: *bit }),
+        Claim::Several { bits } => Ok(Claim::Several {
+            bits: Items::from_slice(alloc, bits.as_slice())?,
+        }),
+    }
+}
+
+/// A copy of claims.
+fn copied_claims(alloc: Global, claims: &[Claim]) -> Result<Items<Claim>, AllocError>
+    ensures { IfOk result (λ copies. copies ≡ claims.now) }
+{
+    let mut copies = Items::new(alloc);
+    for claim in claims {
+        copies.push(copied_claim(alloc, claim)?)?;
+    }
+    Ok(copies)
+}
+
+/// Two claims on one bit.
+fn both_claims(alloc: Global, first: &Claim, second: &Claim) -> Result<Claim, AllocError>
+    ensures { IfOk result (λ both. both ≡ both_claim first.now second.now) }
+{
+    match (first, second) {
+        (Claim::Free, _) => copied_claim(alloc, second),
+        (_, Claim::Free) => copied_claim(alloc, first),
+        _ => {
+            let mut bits = claimed_bits(alloc, first)?;
+            let more = claimed_bits(alloc, second)?;
+            push_all(&mut bits, more.as_slice())?;
+            Ok(Claim::Several { bits })
+        }
+    }
+}
+
+/// Whether a claim changes none on its bit that it is joined to. Most do so, since most bits are claimed by one field.
+fn is_free(claim: &Claim) -> bool
+    ensures { IsTrue result → (first : Claim) → both_claim first claim.now ≡ first }
+{
+    matches!(claim, Claim::Free)
 }
 
 /// Joins the claim on one bit to the first ones, where those before it are joined.
-fn join_claim(first: &mut Items<Claim>, second: &[Claim], place: usize) -> Result<(), AllocError>
+fn join_claim(
+    alloc: Global,
+    first: &mut Items<Claim>,
+    second: &[Claim],
+    place: usize,
+) -> Result<(), AllocError>
     requires { place < length second.now }
     ensures { OnOk result ((start : List Claim) → first.old ≡ all_claims start (take place second.now)
         → first.new ≡ all_claims start (take (place + 1) second.now)) }
 {
     if place < first.len() {
-        let own = &first.as_slice()[place];
-        if !is_kept(own, &second[place]) {
-            let joined = both_claims(own, &second[place]);
+        if !is_free(&second[place]) {
+            let joined = both_claims(alloc, &first.as_slice()[place], &second[place])?;
             first.set(place, joined);
         }
     } else {
-        first.push(second[place])?;
+        first.push(copied_claim(alloc, &second[place])?)?;
     }
     Ok(())
 }
@@ -55,11 +122,11 @@ fn join_claim(first: &mut Items<Claim>, second: &[Claim], place: usize) -> Resul
 /// Joins claims on the same bits to the first ones, in their place. More memory is taken only for bits that the first
 /// ones don't have.
 #[tactic(auto, using(crate::proofs::Alternatives::none_joined))]
-fn join_claims(first: &mut Items<Claim>, second: &[Claim]) -> Result<(), AllocError>
+fn join_claims(alloc: Global, first: &mut Items<Claim>, second: &[Claim]) -> Result<(), AllocError>
     ensures { OnOk result (first.new ≡ all_claims first.old second.now) }
 {
     for place in 0..second.len() {
-        join_claim(first, second, place)?;
+        join_claim(alloc, first, second, place)?;
     }
     Ok(())
 }
@@ -82,7 +149,11 @@ fn have_same_tokens(first: &[TokenUse], second: &[TokenUse]) -> bool
 
 /// Two patterns at once.
 #[tactic(auto, unfolding(crate::specs::Alternatives::conjoined))]
-pub(crate) fn conjoined(first: Expanded, second: &Expanded) -> Result<Expanded, AllocError>
+pub(crate) fn conjoined(
+    alloc: Global,
+    first: Expanded,
+    second: &Expanded,
+) -> Result<Expanded, AllocError>
     ensures { IfOk result (λ e. e ≡ conjoined first second.now) }
 {
     match (first, second) {
@@ -97,7 +168,7 @@ pub(crate) fn conjoined(first: Expanded, second: &Expanded) -> Result<Expanded, 
             if !have_same_tokens(tokens.as_slice(), others.as_slice()) {
                 return Ok(Expanded::Unfit);
             }
-            join_claims(&mut claims, more.as_slice())?;
+            join_claims(alloc, &mut claims, more.as_slice())?;
             Ok(Expanded::Fit { tokens, claims })
         }
         _ => Ok(Expanded::Unfit),
@@ -136,7 +207,7 @@ pub(crate) fn sequenced(
                 return Ok(Expanded::Unfit);
             }
             tokens.append(Items::from_slice(alloc, others.as_slice())?)?;
-            claims.append(Items::from_slice(alloc, more.as_slice())?)?;
+            claims.append(copied_claims(alloc, more.as_slice())?)?;
             Ok(Expanded::Fit { tokens, claims })
         }
         _ => Ok(Expanded::Unfit),
@@ -152,7 +223,7 @@ pub(crate) fn copied(alloc: Global, expanded: &Expanded) -> Result<Expanded, All
         Expanded::Unfit => Ok(Expanded::Unfit),
         Expanded::Fit { tokens, claims } => Ok(Expanded::Fit {
             tokens: Items::from_slice(alloc, tokens.as_slice())?,
-            claims: Items::from_slice(alloc, claims.as_slice())?,
+            claims: copied_claims(alloc, claims.as_slice())?,
         }),
     }
 }

@@ -2,12 +2,12 @@
 ghost use Rattle.std.specs.Prelude.{◌≡◌, ◌++◌, [], ◌∷◌, List, ℕ, IfOk, OnOk};
 ghost use Rattle.std.specs.List.{flat_map};
 ghost use Rattle.std.specs.Option.{option_copied};
-ghost use Rattle.qc_join.specs.Constructors.{constructor_of, constructor_places};
-ghost use Rattle.qc_join.specs.Declarations.{IsTableOf};
-ghost use Rattle.qc_join.specs.Expansion.{named};
+ghost use Rattle.qc_join.specs.Inner.Constructors.{constructor_of, constructor_places};
+ghost use Rattle.qc_names.specs.ValueTables.{IsTableOf};
+ghost use Rattle.qc_names.specs.Tables.{named};
 ghost use Rattle.qc_join.specs.Joining.{constructors_in};
 
-use crate::table::Declared;
+use qc_names::Declared;
 use qc_sled::Item;
 use std::alloc::{AllocError, Global};
 

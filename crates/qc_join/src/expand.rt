@@ -1,17 +1,17 @@
 //! The expansion of patterns.
 ghost use Rattle.std.specs.Prelude.{◌≡◌, ◌<◌, [], ◌∷◌, length, drop, IfOk};
 ghost use Rattle.std.specs.Option.{option_copied, IfSome};
-ghost use Rattle.qc_join.specs.Alternatives.{all_conjoined, all_sequenced, conjoined_with, sequenced_with, one_of};
-ghost use Rattle.qc_join.specs.Alternatives.{conjoined, sequenced};
-ghost use Rattle.qc_join.specs.Expansion.{Scope, named, expanded, pattern_named, field_equal};
-ghost use Rattle.qc_join.specs.Expanding.{IsScopeOf, all_expanded};
+ghost use Rattle.qc_names.specs.Tables.{named};
+ghost use Rattle.qc_join.specs.Alternatives.{all_joined, joined, joined_with, one_of};
+ghost use Rattle.qc_join.specs.Expansion.{Scope, expanded, pattern_named, field_equal};
+ghost use Rattle.qc_join.specs.Inner.Expanding.{IsScopeOf, all_expanded};
 
 use crate::alternative::{conjoined, copied, sequenced};
-use crate::expanded::Expanded;
+use crate::expanded::{Expanded, Joint};
 use crate::scope::ScopeTables;
 use crate::values::field_equal;
+use qc_grammar::Ident;
 use qc_sled::{Pattern, Value};
-use qc_text::Ident;
 use std::alloc::{AllocError, Global};
 
 /// What the pattern of a name came to.
@@ -75,128 +75,84 @@ fn named_field(
     }
 }
 
-/// A pattern and one more at once. One that only names a pattern is not copied.
+/// Two patterns that are put together.
+fn joined(
+    alloc: Global,
+    how: Joint,
+    first: Expanded,
+    second: &Expanded,
+) -> Result<Expanded, AllocError>
+    ensures { IfOk result (λ e. e ≡ joined how first second.now) }
+{
+    match how {
+        Joint::AtOnce => conjoined(alloc, first, second),
+        Joint::InTurn => sequenced(alloc, first, second),
+    }
+}
+
+/// A pattern and one more that are put together. One that only names a pattern is not copied.
 #[tactic(auto, using(crate::proofs::Parts::expanding))]
 #[cycle(expanding)]
-fn conjoined_part(
+fn joined_part(
     alloc: Global,
     scope: &ScopeTables<'_>,
+    how: Joint,
     first: Expanded,
     part: &Pattern,
 ) -> Result<Expanded, AllocError>
     ensures { IfOk result (λ e. (spec : Scope) → IsScopeOf scope.now spec
-        → e ≡ conjoined first (expanded part.now spec)) }
+        → e ≡ joined how first (expanded part.now spec)) }
 {
     match name_alone(part) {
         Some(name) => match scope.patterns.get(name.text.as_slice()) {
-            Some(used) => conjoined(first, used),
-            None => conjoined(first, &Expanded::Unfit),
+            Some(used) => joined(alloc, how, first, used),
+            None => joined(alloc, how, first, &Expanded::Unfit),
         },
         None => {
             let second = expanded(alloc, scope, part)?;
-            conjoined(first, &second)
+            joined(alloc, how, first, &second)
         }
     }
 }
 
-/// The first pattern, expanded, at once with all parts after it.
+/// The first pattern, expanded, with all parts after it.
 #[tactic(auto, using(crate::proofs::Parts::expanding))]
 #[cycle(expanding)]
-fn conjoined_parts(
+fn joined_parts(
     alloc: Global,
     scope: &ScopeTables<'_>,
+    how: Joint,
     first: Expanded,
     parts: &[Pattern],
 ) -> Result<Expanded, AllocError>
     requires { 0 < length parts.now }
     ensures { IfOk result (λ e. (spec : Scope) → IsScopeOf scope.now spec
-        → e ≡ conjoined_with first (all_expanded spec (drop 1 parts.now))) }
+        → e ≡ joined_with how first (all_expanded spec (drop 1 parts.now))) }
 {
-    let mut joined = first;
+    let mut whole = first;
     for place in 1..parts.len() {
-        joined = conjoined_part(alloc, scope, joined, &parts[place])?;
+        whole = joined_part(alloc, scope, how, whole, &parts[place])?;
     }
-    Ok(joined)
+    Ok(whole)
 }
 
-/// All parts at once.
+/// All parts put together.
 #[tactic(auto, using(crate::proofs::Parts::expanding))]
 #[cycle(expanding)]
-fn conjunction(
+fn all_joined(
     alloc: Global,
     scope: &ScopeTables<'_>,
+    how: Joint,
     parts: &[Pattern],
 ) -> Result<Expanded, AllocError>
     ensures { IfOk result (λ e. (spec : Scope) → IsScopeOf scope.now spec
-        → e ≡ all_conjoined (all_expanded spec parts.now)) }
+        → e ≡ all_joined how (all_expanded spec parts.now)) }
 {
     if parts.is_empty() {
         return Ok(Expanded::Unfit);
     }
     let first = expanded(alloc, scope, &parts[0])?;
-    conjoined_parts(alloc, scope, first, parts)
-}
-
-/// A pattern and one more after it. One that only names a pattern is not copied.
-#[tactic(auto, using(crate::proofs::Parts::expanding))]
-#[cycle(expanding)]
-fn sequenced_part(
-    alloc: Global,
-    scope: &ScopeTables<'_>,
-    first: Expanded,
-    part: &Pattern,
-) -> Result<Expanded, AllocError>
-    ensures { IfOk result (λ e. (spec : Scope) → IsScopeOf scope.now spec
-        → e ≡ sequenced first (expanded part.now spec)) }
-{
-    match name_alone(part) {
-        Some(name) => match scope.patterns.get(name.text.as_slice()) {
-            Some(used) => sequenced(alloc, first, used),
-            None => sequenced(alloc, first, &Expanded::Unfit),
-        },
-        None => {
-            let second = expanded(alloc, scope, part)?;
-            sequenced(alloc, first, &second)
-        }
-    }
-}
-
-/// The first pattern, expanded, and all parts after it, one after the other.
-#[tactic(auto, using(crate::proofs::Parts::expanding))]
-#[cycle(expanding)]
-fn sequenced_parts(
-    alloc: Global,
-    scope: &ScopeTables<'_>,
-    first: Expanded,
-    parts: &[Pattern],
-) -> Result<Expanded, AllocError>
-    requires { 0 < length parts.now }
-    ensures { IfOk result (λ e. (spec : Scope) → IsScopeOf scope.now spec
-        → e ≡ sequenced_with first (all_expanded spec (drop 1 parts.now))) }
-{
-    let mut joined = first;
-    for place in 1..parts.len() {
-        joined = sequenced_part(alloc, scope, joined, &parts[place])?;
-    }
-    Ok(joined)
-}
-
-/// All parts one after the other.
-#[tactic(auto, using(crate::proofs::Parts::expanding))]
-#[cycle(expanding)]
-fn sequence(
-    alloc: Global,
-    scope: &ScopeTables<'_>,
-    parts: &[Pattern],
-) -> Result<Expanded, AllocError>
-    ensures { IfOk result (λ e. (spec : Scope) → IsScopeOf scope.now spec
-        → e ≡ all_sequenced (all_expanded spec parts.now)) }
-{
-    if parts.is_empty() {
-        return Ok(Expanded::Unfit);
-    }
-    let first = expanded(alloc, scope, &parts[0])?;
-    sequenced_parts(alloc, scope, first, parts)
+    joined_parts(alloc, scope, how, first, parts)
 }
 
 /// One of the parts. Of two or more none is looked at.
@@ -227,8 +183,8 @@ pub(crate) fn expanded(
         Pattern::Name { name } => named_pattern(alloc, scope, name),
         Pattern::Equal { field, value } => named_field(alloc, scope, field, value.get()),
         Pattern::Group { token: _, inner } => expanded(alloc, scope, inner.get()),
-        Pattern::Conjunction { parts } => conjunction(alloc, scope, parts.as_slice()),
-        Pattern::Sequence { parts } => sequence(alloc, scope, parts.as_slice()),
+        Pattern::Conjunction { parts } => all_joined(alloc, scope, Joint::AtOnce, parts.as_slice()),
+        Pattern::Sequence { parts } => all_joined(alloc, scope, Joint::InTurn, parts.as_slice()),
         Pattern::Alternatives { parts } => choice(alloc, scope, parts.as_slice()),
     }
 }

@@ -29,3 +29,10 @@ pub(crate) struct FieldPlace {
     pub(crate) high: u128,
     pub(crate) low: u128,
 }
+
+/// How patterns are put together: at once, or one after the other.
+#[derive(Clone, Copy, Debug, PartialEq, Eq)]
+pub(crate) enum Joint {
+    AtOnce,
+    InTurn,
+}

@@ -1,4 +1,5 @@
 use qc_descr::DescrFault;
+use qc_names::TokenFault;
 
 /// Why a coding's text and a machine make no description: a fault among the names of the text, by the number of a token,
 /// or else one of the description.
@@ -23,4 +24,38 @@ pub enum JoinEnd {
 pub(crate) enum NameFault {
     Unknown { token: usize },
     Twice { token: usize },
+}
+
+impl TokenFault for NameFault {
+    ghost use Rattle.qc_join.specs.declared.faults.NameFault.TheVariants.{Twice as twice_fault, Unknown as unknown_fault};
+    ghost use Rattle.qc_join.specs.Faults.{token_of as token_of_fault, rank_of as rank_of_fault};
+
+    ghost token_of = { token_of_fault };
+
+    ghost rank_of = { rank_of_fault };
+
+    ghost twice = { twice_fault };
+
+    ghost unknown = { unknown_fault };
+
+    fn token(&self) -> usize {
+        match self {
+            NameFault::Unknown { token } | NameFault::Twice { token } => *token,
+        }
+    }
+
+    fn rank(&self) -> u8 {
+        match self {
+            NameFault::Unknown { .. } => 0,
+            NameFault::Twice { .. } => 1,
+        }
+    }
+
+    fn second_at(token: usize) -> NameFault {
+        NameFault::Twice { token }
+    }
+
+    fn unknown_at(token: usize) -> NameFault {
+        NameFault::Unknown { token }
+    }
 }

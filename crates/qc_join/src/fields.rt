@@ -2,10 +2,10 @@
 ghost use Rattle.std.specs.Prelude.{◌++◌, [], ◌∷◌, List, ℕ, IfOk, OnOk};
 ghost use Rattle.qc_join.specs.declared.expanded.FieldPlace.{FieldPlace as SpecFieldPlace};
 ghost use Rattle.qc_join.specs.Expansion.{places_of, fields_from, fields_of};
-ghost use Rattle.qc_join.specs.Declarations.{IsTableOf};
+ghost use Rattle.qc_names.specs.ValueTables.{IsTableOf};
 
 use crate::expanded::FieldPlace;
-use crate::table::Declared;
+use qc_names::Declared;
 use qc_sled::{Field, Item};
 use std::alloc::{AllocError, Global};
 

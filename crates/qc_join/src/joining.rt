@@ -53,7 +53,7 @@ fn described(alloc: Global, parts: Parts) -> Result<Description, JoinEnd>
 
 /// The description of a machine whose codings are those of a text without faults among names.
 fn coded(alloc: Global, machine: Machine, coding: &RawCoding) -> Result<Description, JoinEnd>
-    requires { AreParts machine.given machine.spaces machine.operations }
+    requires { AreParts machine.name machine.given machine.spaces machine.operations }
     ensures answer { JoinsParts (parts_of machine coding.now.items) result }
     ensures valid { IfOk result IsValid }
 {
@@ -77,10 +77,10 @@ fn coded(alloc: Global, machine: Machine, coding: &RawCoding) -> Result<Descript
     )
 }
 
-/// The description of a machine whose codings are those of the text, or the fault that is told: one among names, else
+/// The description of a machine whose codings are those of the text, or the fault that is reported: one among names, else
 /// that of the description.
 pub fn join(alloc: Global, machine: Machine, coding: &RawCoding) -> Result<Description, JoinEnd>
-    requires { AreParts machine.given machine.spaces machine.operations }
+    requires { AreParts machine.name machine.given machine.spaces machine.operations }
     ensures answer { Joins machine coding.now result }
     ensures valid { IfOk result IsValid }
 {

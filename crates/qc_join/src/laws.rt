@@ -8,5 +8,5 @@ ghost use Rattle.qc_sled.specs.declared.syntax.Item.{Item};
 
 /// The parts of a machine with the codings that a text gives them are whole.
 pub(crate) fn parts_are_whole()
-    ensures { (machine : Machine) (items : List Item) → AreParts machine.given machine.spaces machine.operations → AreWholeParts (parts_of machine items) }
+    ensures { (machine : Machine) (items : List Item) → AreParts machine.name machine.given machine.spaces machine.operations → AreWholeParts (parts_of machine items) }
 {}

@@ -14,16 +14,11 @@ mod joining;
 mod laws;
 mod name_faults;
 mod names;
-mod order;
 mod patterns;
 mod scope;
 mod seen;
 mod sketches;
-mod table;
 mod values;
 
 pub use faults::{JoinEnd, JoinFault};
 pub use joining::join;
-
-#[cfg(test)]
-mod tests;

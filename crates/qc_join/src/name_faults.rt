@@ -1,19 +1,19 @@
 //! The faults of whole texts among names.
 ghost use Rattle.std.specs.Prelude.{◌≡◌, ◌++◌, [], map, OnOk, IfOk};
 ghost use Rattle.std.specs.List.{flat_map};
-ghost use Rattle.qc_names.specs.Tables.{names_in};
-ghost use Rattle.qc_join.specs.Faults.{told};
-ghost use Rattle.qc_join.specs.Names.{pattern_names, field_names, texts_of, second_names, pattern_faults, item_faults, items_faults, repeats, name_faults};
-ghost use Rattle.qc_join.specs.NameSets.{HasNames, names_of, constructor_faults};
+ghost use Rattle.qc_names.specs.Seen.{texts_of};
+ghost use Rattle.qc_names.specs.Tables.{names_in, HasNames};
+ghost use Rattle.qc_join.specs.Faults.{reported};
+ghost use Rattle.qc_join.specs.Names.{pattern_names, field_names, second_names, pattern_faults, item_faults, items_faults, repeats, name_faults};
+ghost use Rattle.qc_join.specs.Inner.KeptNames.{names_of, constructor_faults};
 
 use crate::faults::NameFault;
-use crate::names::{Tables, known_or, pattern_fault, use_fault};
-use crate::order::earlier;
+use crate::names::{Tables, pattern_fault, use_fault};
 use crate::seen::{Kind, seen_in_items, seen_in_params};
 use qc_descr::Operation;
-use qc_names::NameTable;
+use qc_grammar::Ident;
+use qc_names::{NameTable, earlier, known_or};
 use qc_sled::{Item, Param, Pattern, RawCoding};
-use qc_text::Ident;
 use std::alloc::{AllocError, Global};
 
 /// The names that an item may use, a table for each kind.
@@ -26,7 +26,7 @@ struct Known<'a> {
 
 /// The fault of a body without operands.
 fn body_fault(alloc: Global, known: &Known<'_>, body: &Pattern) -> Option<NameFault>
-    ensures { result ≡ told (pattern_faults body.now (record {
+    ensures { result ≡ reported (pattern_faults body.now (record {
       fields = names_in known.now.fields.now;
       patterns = names_in known.now.patterns.now;
       operands = [];
@@ -49,7 +49,7 @@ fn constructor_fault(
     params: &[Param],
     body: &Pattern,
 ) -> Result<Option<NameFault>, AllocError>
-    ensures { IfOk result (λ fault. fault ≡ told (constructor_faults (names_in known.now.operations.now) (record {
+    ensures { IfOk result (λ fault. fault ≡ reported (constructor_faults (names_in known.now.operations.now) (record {
       fields = names_in known.now.fields.now;
       patterns = names_in known.now.patterns.now;
       operands = map (λ p. p.name.text) params.now;
@@ -71,7 +71,7 @@ fn item_fault(
     known: &Known<'_>,
     item: &Item,
 ) -> Result<Option<NameFault>, AllocError>
-    ensures { IfOk result (λ fault. fault ≡ told (item_faults (names_in known.now.operations.now)
+    ensures { IfOk result (λ fault. fault ≡ reported (item_faults (names_in known.now.operations.now)
         (names_in known.now.fields.now) (names_in known.now.patterns.now) item.now)) }
 {
     match item {
@@ -108,7 +108,7 @@ fn items_fault(
     items: &[Item],
 ) -> Result<Option<NameFault>, AllocError>
     ensures { IfOk result (λ fault. fault
-        ≡ told (items_faults (names_in operations.now) (names_in fields.now) [] items.now)) }
+        ≡ reported (items_faults (names_in operations.now) (names_in fields.now) [] items.now)) }
 {
     let mut patterns = NameTable::new(alloc);
     let mut found = None;
@@ -126,7 +126,7 @@ fn items_fault(
 
 /// The fault of the second declarations of a kind.
 fn second_name(alloc: Global, kind: Kind, items: &[Item]) -> Result<Option<NameFault>, AllocError>
-    ensures { IfOk result (λ fault. fault ≡ told (second_names [] (flat_map (names_of kind) items.now))) }
+    ensures { IfOk result (λ fault. fault ≡ reported (second_names [] (flat_map (names_of kind) items.now))) }
 {
     let seen = seen_in_items(alloc, kind, items)?;
     Ok(seen.fault)
@@ -138,8 +138,8 @@ fn repeat_fault(
     fields: Option<NameFault>,
     items: &[Item],
 ) -> Result<Option<NameFault>, AllocError>
-    requires { fields ≡ told (second_names [] (flat_map field_names items.now)) }
-    ensures { IfOk result (λ fault. fault ≡ told (repeats items.now)) }
+    requires { fields ≡ reported (second_names [] (flat_map field_names items.now)) }
+    ensures { IfOk result (λ fault. fault ≡ reported (repeats items.now)) }
 {
     let tokens = second_name(alloc, Kind::Token, items)?;
     let patterns = second_name(alloc, Kind::Pattern, items)?;
@@ -153,7 +153,7 @@ fn fault_of_items(
     operations: &NameTable,
     items: &[Item],
 ) -> Result<Option<NameFault>, AllocError>
-    ensures { IfOk result (λ fault. fault ≡ told (repeats items.now
+    ensures { IfOk result (λ fault. fault ≡ reported (repeats items.now
         ++ items_faults (names_in operations.now) (texts_of (flat_map field_names items.now)) [] items.now)) }
 {
     let fields = seen_in_items(alloc, Kind::Field, items)?;
@@ -173,7 +173,7 @@ fn operation_names(alloc: Global, operations: &[Operation]) -> Result<NameTable,
     Ok(names)
 }
 
-/// The fault that is told of a text, for a machine of this name with these operations.
+/// The fault that is reported of a text, for a machine of this name with these operations.
 pub(crate) fn name_fault(
     alloc: Global,
     machine: &[u8],
@@ -181,7 +181,7 @@ pub(crate) fn name_fault(
     raw: &RawCoding,
 ) -> Result<Option<NameFault>, AllocError>
     ensures { IfOk result (λ fault. fault
-        ≡ told (name_faults machine.now (map (λ o. o.name) operations.now) raw.now)) }
+        ≡ reported (name_faults machine.now (map (λ o. o.name) operations.now) raw.now)) }
 {
     let known = operation_names(alloc, operations)?;
     let items = fault_of_items(alloc, &known, raw.items.as_slice())?;

@@ -3,12 +3,12 @@ ghost use Rattle.std.specs.Prelude.{◌≡◌, ◌++◌, [], List, ℕ, IfOk, On
 ghost use Rattle.qc_join.specs.declared.expanded.Expanded.{Expanded as SpecExpanded};
 ghost use Rattle.qc_join.specs.declared.expanded.FieldPlace.{FieldPlace as SpecFieldPlace};
 ghost use Rattle.qc_join.specs.Expansion.{Scope, expanded, fields_of, patterns_in, patterns_of};
-ghost use Rattle.qc_join.specs.Declarations.{IsTableOf};
+ghost use Rattle.qc_names.specs.ValueTables.{IsTableOf};
 
 use crate::expand::expanded;
 use crate::expanded::{Expanded, FieldPlace};
 use crate::scope::ScopeTables;
-use crate::table::Declared;
+use qc_names::Declared;
 use qc_sled::{Item, Pattern};
 use std::alloc::{AllocError, Global};
 

@@ -1,6 +1,6 @@
 //! What names stand for where a pattern is expanded.
 use crate::expanded::{Expanded, FieldPlace};
-use crate::table::Declared;
+use qc_names::Declared;
 
 /// The tables of fields, of the patterns before, and of operands, each with its number and its number of bits, if it has
 /// one.

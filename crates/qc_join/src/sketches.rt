@@ -3,8 +3,8 @@ ghost use Rattle.std.specs.Prelude.{◌≡◌, ◌++◌, ◌+◌, ◌≤◌, [],
 ghost use Rattle.qc_descr.specs.CodingFaults.{operand_sizes, operation_kinds};
 ghost use Rattle.qc_descr.specs.Parts.{word_of};
 ghost use Rattle.qc_sled.specs.declared.syntax.Item.{Item};
-ghost use Rattle.qc_join.specs.Constructors.{AreTablesOf};
-ghost use Rattle.qc_join.specs.Declarations.{IsTableOf};
+ghost use Rattle.qc_join.specs.Inner.Constructors.{AreTablesOf};
+ghost use Rattle.qc_names.specs.ValueTables.{IsTableOf};
 ghost use Rattle.qc_join.specs.Joining.{are_operands, misfit_sketch, named_operands, reach_of, reaches_of};
 ghost use Rattle.qc_join.specs.Joining.{sketches_by, sketches_from, sketches_of};
 
@@ -14,8 +14,8 @@ use crate::expanded::{Expanded, FieldPlace, TokenUse};
 use crate::fields::fields;
 use crate::patterns::patterns;
 use crate::scope::ScopeTables;
-use crate::table::Declared;
 use qc_descr::{Given, OperandKind, Operation, Reach, Sketch, Space, operand_size, operand_sizes};
+use qc_names::Declared;
 use qc_sled::{Item, Param, Pattern, Reach as WrittenReach};
 use qc_text::Text;
 use qc_widths::Machine;
@@ -70,8 +70,8 @@ fn are_operands(operands: &[(Text, OperandKind)], params: &[Param]) -> bool
     }
 }
 
-/// A number of bits, of which those above 255 are told as 255.
-fn told_bits(bits: u128) -> u8
+/// A number of bits, of which those above 255 are kept as 255.
+fn bits_up_to_255(bits: u128) -> u8
     ensures { result ≡ min bits 255 }
 {
     if bits < 255 { bits as u8 } else { 255 }
@@ -84,10 +84,10 @@ fn reach_of(reach: &Option<WrittenReach>) -> Reach
     match reach {
         None => Reach::Plain,
         Some(WrittenReach::Relative { bits, .. }) => Reach::Relative {
-            bits: told_bits(bits.value),
+            bits: bits_up_to_255(bits.value),
         },
         Some(WrittenReach::Absolute { bits, .. }) => Reach::Absolute {
-            bits: told_bits(bits.value),
+            bits: bits_up_to_255(bits.value),
         },
     }
 }

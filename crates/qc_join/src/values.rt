@@ -2,7 +2,7 @@
 ghost use Rattle.std.specs.Prelude.{◌≡◌, ◌≤◌, ◌<◌, ◌+◌, IfOk, IsTrue, Some};
 ghost use Rattle.qc_join.specs.Alternatives.{is_field};
 ghost use Rattle.qc_join.specs.Expansion.{Scope, bits_of_value, whole_operand, part_of_operand, field_equal};
-ghost use Rattle.qc_join.specs.Expanding.{IsScopeOf};
+ghost use Rattle.qc_join.specs.Inner.Expanding.{IsScopeOf};
 
 use crate::alternative::{constant_bits, field_alternative, piece_bits};
 use crate::expanded::{Expanded, FieldPlace};

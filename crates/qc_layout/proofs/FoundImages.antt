@@ -61,10 +61,10 @@ taken_small place bytes i small (inl lt) e =
 taken_small place bytes i small (inr le) e =
     omega (arith, get_or_past (take 4 (drop place bytes)) i 0 (omega arith))
 
-bytes_told : (bytes : List ℕ) (place : ℕ) → place + 4 ≤ length bytes → ((i : ℕ) → get_or bytes i 0 < 256) →
+bytes_written : (bytes : List ℕ) (place : ℕ) → place + 4 ≤ length bytes → ((i : ℕ) → get_or bytes i 0 < 256) →
     to_le_bytes w32 (number_at place bytes) ≡ take 4 (drop place bytes)
 unfolding number_at
-bytes_told bytes place within small =
+bytes_written bytes place within small =
     let four : length (take 4 (drop place bytes)) ≡ 4 =
     length-take-le 4 (drop place bytes) (omega (arith, length-drop place bytes)) in
     le_bytes_4 (take 4 (drop place bytes)) _ four (λ i. taken_small place bytes i small (cases_lt i 4) four) refl
@@ -92,7 +92,7 @@ pub record HasParts (bytes code initial : List ℕ) : Type 0 where
 
 pub has_parts : (bytes body code initial : List ℕ) (size : ℕ) → size ≡ number_at 8 bytes → body ≡ drop 16 bytes →
     code ≡ take size body → initial ≡ drop size body → HasParts bytes code initial
-has_parts bytes body code initial size told is code_is data_is = record {
+has_parts bytes body code initial size sized is code_is data_is = record {
   code_stands = cc;
   data_stands =
       let whole : initial ≡ drop (number_at 8 bytes) (drop 16 bytes) = cc in
@@ -150,7 +150,7 @@ found_fits d bytes code initial h parts = record {
   last = last_not d bytes code initial h parts;
 }
 
--- the same parts, one after another
+-- parts that are equal to those of a file, one after another, are the file
 joined_parts : (a b c x y a' b' c' x' y' bytes : List ℕ) → a ≡ a' → b ≡ b' → c ≡ c' → x ≡ x' → y ≡ y' →
     a' ++ (b' ++ (c' ++ (x' ++ y'))) ≡ bytes → bytes ≡ a ++ (b ++ (c ++ (x ++ y)))
 joined_parts a b c x y a' b' c' x' y' bytes p q r s t e = cc
@@ -160,14 +160,14 @@ pub found_bytes : (d : Description) (bytes code initial : List ℕ) → IsFaultl
 unfolding image_bytes
 found_bytes d bytes code initial h parts small =
     let header = has_header d bytes h in
-    let code_told : to_le_bytes w32 (length code) ≡ take 4 (drop 8 bytes) =
-    ap (to_le_bytes w32) (code_size d bytes code initial h parts) ∙ bytes_told bytes 8 (omega arith) small in
-    let data_told : to_le_bytes w32 (length initial) ≡ take 4 (drop 12 bytes) =
-    ap (to_le_bytes w32) (data_size d bytes code initial h parts) ∙ bytes_told bytes 12 (omega arith) small in
+    let code_written : to_le_bytes w32 (length code) ≡ take 4 (drop 8 bytes) =
+    ap (to_le_bytes w32) (code_size d bytes code initial h parts) ∙ bytes_written bytes 8 (omega arith) small in
+    let data_written : to_le_bytes w32 (length initial) ≡ take 4 (drop 12 bytes) =
+    ap (to_le_bytes w32) (data_size d bytes code initial h parts) ∙ bytes_written bytes 12 (omega arith) small in
     let whole = split (code_length bytes) bytes in
     let marked = has_mark d bytes h in
     joined_parts (mark_for d) (to_le_bytes w32 (length code)) (to_le_bytes w32 (length initial)) code initial _ _ _ _ _ bytes
-    (sym marked) code_told data_told parts.code_stands parts.data_stands whole
+    (sym marked) code_written data_written parts.code_stands parts.data_stands whole
 
 small_all : (bytes : List ℕ) (i : ℕ) → All (λ byte. byte < 256) bytes → (i < length bytes) ⊎ (length bytes ≤ i) → get_or bytes i 0 < 256
 small_all bytes i all (inl lt) = All-get_or (λ byte. byte < 256) bytes i 0 lt all

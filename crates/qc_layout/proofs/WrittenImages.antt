@@ -11,7 +11,7 @@ use Rattle.qc_descr.specs.Loading.{FitsMachine, data_limit}
 use Rattle.qc_descr.specs.Valid.{IsValid}
 use Rattle.qc_layout.specs.ImageFaults.{IsFaultyPlace, mark_for, wanted_length}
 use Rattle.qc_layout.specs.ImageFile.{HasFile, image_bytes, mark}
-use Rattle.qc_layout.proofs.Headers.{code_told, data_told, length_of_file, length_told}
+use Rattle.qc_layout.proofs.Headers.{code_written, data_written, length_of_file, length_written}
 
 -- an image that fits the machine of a valid description has a file
 pub fitting_has_file : (d : Description) (image : Image) → IsValid d → FitsMachine d image → HasFile image
@@ -58,14 +58,14 @@ last_read image at more place h =
 
 short_not : (image : Image) → HasFile image → (length (image_bytes image) < 16) ⊎ (length (image_bytes image) < wanted_length (image_bytes image)) → ⊥
 short_not image has (inl h) = omega (arith, length_of_file image)
-short_not image has (inr h) = omega (arith, length_told image has)
+short_not image has (inr h) = omega (arith, length_written image has)
 
 pub no_fault : (d : Description) (image : Image) (at : ℕ) → HasFile image → FitsMachine d image → IsFaultyPlace d (image_bytes image) at → ⊥
 no_fault d image at has fits (inl h) =
     h.2 (mark_read image at h.0 ∙ ap (λ m. slice_index m at) (same_mark d image fits))
-no_fault d image at has fits (inr (inl h)) = omega (arith, h.2, code_told image has, fits.code)
-no_fault d image at has fits (inr (inr (inl h))) = omega (arith, h.2, data_told image has, fits.room)
+no_fault d image at has fits (inr (inl h)) = omega (arith, h.2, code_written image has, fits.code)
+no_fault d image at has fits (inr (inr (inl h))) = omega (arith, h.2, data_written image has, fits.room)
 no_fault d image at has fits (inr (inr (inr (inl h)))) = short_not image has h.1
-no_fault d image at has fits (inr (inr (inr (inr (inl h))))) = omega (arith, h.2, length_told image has)
+no_fault d image at has fits (inr (inr (inr (inr (inl h))))) = omega (arith, h.2, length_written image has)
 no_fault d image at has fits (inr (inr (inr (inr (inr h))))) =
-    fits.last (last_read image at (omega (arith, h.1, data_told image has)) (omega (arith, h.0, code_told image has, data_told image has)) h.3)
+    fits.last (last_read image at (omega (arith, h.1, data_written image has)) (omega (arith, h.0, code_written image has, data_written image has)) h.3)

@@ -1,4 +1,4 @@
--- Why a file is none of an image for a machine.
+-- Where a file differs from every image file of a machine.
 use Rattle.std.specs.Prelude.{ℕ, ◌≡◌, ◌≢◌, ◌<◌, ◌≤◌, ◌+◌, ◌-◌, ◌⊎◌, List, length, take, drop, min, slice_get, slice_index, Some, Result, Ok, Err}
 use Rattle.std.specs.Int.{from_le_bytes, w32}
 use Rattle.qc_terms.specs.declared.image.Image.{Image}
@@ -36,11 +36,11 @@ abbrev pub IsWrongMark : Description → List ℕ → ℕ → Type 0
 IsWrongMark d bytes at =
     (at < 8) × (at < length bytes) × (slice_index bytes at ≢ slice_index (mark_for d) at)
 
--- the length of the code is told there, and is more than the machine's code region has
+-- the length of the code stands there, and is more than the machine's code region has
 abbrev pub IsTooMuchCode : Description → List ℕ → ℕ → Type 0
 IsTooMuchCode d bytes at = (at ≡ 8) × (12 ≤ length bytes) × (d.code_end < code_length bytes)
 
--- the length of the data is told there, and is more than there is room for
+-- the length of the data stands there, and is more than there is room for
 abbrev pub IsTooMuchData : Description → List ℕ → ℕ → Type 0
 IsTooMuchData d bytes at = (at ≡ 12) × (16 ≤ length bytes) × (data_room d < data_length bytes)
 

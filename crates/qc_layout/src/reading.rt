@@ -152,6 +152,3 @@ pub fn read_image(alloc: Global, bytes: &[u8], descr: &Description) -> Result<Im
         Err(_) => Err(ImageEnd::NoMemory),
     }
 }
-
-#[cfg(test)]
-mod tests;

@@ -1,12 +1,13 @@
 -- The grammar of machine texts, rule by rule. Words in quotes are reserved, and no names.
 use Rattle.std.specs.Prelude.{ℕ, Bool, true, false, List, [], ◌∷◌, Option, codes, ◌≡◌, refl}
-use Rattle.qc_text.specs.declared.cursor.Ident.{Ident}
-use Rattle.qc_text.specs.Lexeme.{Class, Word, Lexeme}
-use Rattle.qc_text.specs.Grammar.{Grammar, nonterminal, empty, repetition, ◌<+>◌, ◌*>◌, ◌<*◌, ◌<|>◌, ◌<$>◌, word, name, number, optional, Syntax}
-use Rattle.qc_text.specs.Reading.{reads}
-use Rattle.qc_text.specs.Clean.{IsReadable, is_clean}
-use Rattle.qc_text.specs.Law.Fuel.{unroll}
-use Rattle.qc_text.specs.declared.number.Number.{Number}
+use Rattle.qc_grammar.specs.declared.cursor.Ident.{Ident}
+use Rattle.qc_grammar.specs.Lexeme.{Class, Word, Lexeme, Vocabulary, reserving}
+use Rattle.qc_grammar.specs.Grammar.{Grammar, nonterminal, empty, repetition, ◌<+>◌, ◌*>◌, ◌<*◌, ◌<|>◌, ◌<$>◌, word, name, number, optional, Syntax, separated}
+use Rattle.qc_grammar.specs.Reading.{reads}
+use Rattle.qc_grammar.specs.Law.LL1.{IsReadable}
+use Rattle.qc_grammar.specs.Law.Lists.{Shortens, shortens_of}
+use Rattle.qc_grammar.specs.Law.Fuel.{unroll}
+use Rattle.qc_grammar.specs.declared.cursor.Number.{Number}
 use Rattle.qc_lrtl.specs.declared.syntax.Expr.{Expr}
 use Rattle.qc_lrtl.specs.declared.syntax.Expr.TheVariants as expression
 use Rattle.qc_lrtl.specs.declared.syntax.Simple.{Simple}
@@ -31,6 +32,10 @@ reserved =
     ∷ codes "zero" ∷ codes "frame" ∷ codes "link" ∷ codes "allocatable" ∷ codes "fun" ∷ codes "eff" ∷ codes "instr"
     ∷ codes "imm" ∷ codes "addr" ∷ codes "when" ∷ codes "pc" ∷ codes "out" ∷ codes "halt" ∷ codes "trap" ∷ codes "mem"
     ∷ codes "input" ∷ codes "after" ∷ codes "zx" ∷ codes "sx" ∷ codes "slice" ∷ []
+
+-- They and punctuation are the words of the grammar.
+abbrev pub vocabulary : Vocabulary
+vocabulary = reserving reserved
 
 -- the one rule that may come inside itself
 pub data Rule : Type 0 where
@@ -124,13 +129,9 @@ guard =
 unfoldable pub effect : Grammar Rule TreeOf Effect
 effect = (λ p. record { guard = p.0; simple = p.1 }) <$> guard <+> simple
 
--- next_effect = "|" effect
-unfoldable pub next_effect : Grammar Rule TreeOf Effect
-next_effect = word (codes "|") *> effect
-
 -- rtl = effect { "|" effect }
 unfoldable pub rtl : Grammar Rule TreeOf (List Effect)
-rtl = (λ p. p.0 ∷ p.1) <$> effect <+> repetition next_effect
+rtl = separated effect (codes "|")
 
 -- arity = [ "/" number ]
 unfoldable pub arity : Grammar Rule TreeOf (Option Number)
@@ -140,17 +141,9 @@ arity = optional (word (codes "/") *> number)
 unfoldable pub param : Grammar Rule TreeOf Param
 param = (λ p. record { name = p.0; arity = p.1 }) <$> name <+> arity
 
--- next_param = "," param
-unfoldable pub next_param : Grammar Rule TreeOf Param
-next_param = word (codes ",") *> param
-
--- some_params = param { "," param }
-unfoldable pub some_params : Grammar Rule TreeOf (List Param)
-some_params = (λ p. p.0 ∷ p.1) <$> param <+> repetition next_param
-
--- params = "(" [ some_params ] ")"
+-- params = "(" [ param { "," param } ] ")"
 unfoldable pub params : Grammar Rule TreeOf (List Param)
-params = word (codes "(") *> ((λ _. []) <$> word (codes ")") <|> some_params <* word (codes ")"))
+params = word (codes "(") *> ((λ _. []) <$> word (codes ")") <|> separated param (codes ",") <* word (codes ")"))
 
 -- operand_kind = name | "imm" number | "addr"
 unfoldable pub operand_kind : Grammar Rule TreeOf OperandKind
@@ -163,17 +156,9 @@ operand_kind =
 unfoldable pub operand : Grammar Rule TreeOf Operand
 operand = (λ p. record { name = p.0; kind = p.1 }) <$> name <* word (codes ":") <+> operand_kind
 
--- next_operand = "," operand
-unfoldable pub next_operand : Grammar Rule TreeOf Operand
-next_operand = word (codes ",") *> operand
-
--- some_operands = operand { "," operand }
-unfoldable pub some_operands : Grammar Rule TreeOf (List Operand)
-some_operands = (λ p. p.0 ∷ p.1) <$> operand <+> repetition next_operand
-
--- operands = "(" [ some_operands ] ")"
+-- operands = "(" [ operand { "," operand } ] ")"
 unfoldable pub operands : Grammar Rule TreeOf (List Operand)
-operands = word (codes "(") *> ((λ _. []) <$> word (codes ")") <|> some_operands <* word (codes ")"))
+operands = word (codes "(") *> ((λ _. []) <$> word (codes ")") <|> separated operand (codes ",") <* word (codes ")"))
 
 -- order = "little" | "big"
 unfoldable pub order : Grammar Rule TreeOf ByteOrder
@@ -257,8 +242,8 @@ lambda_rtl = record { rule = rule; goes_on = goes_on }
 
 pub lambda_rtl_is_readable : IsReadable lambda_rtl machine
 unfolding next_expr exprs arguments address argument cell after_name resized built expr assigned after_target simple
-    guard effect next_effect rtl arity param next_param some_params params operand_kind operand next_operand
-    some_operands operands order single region flags role of_cells instruction declaration item ended_item items machine
+    guard effect rtl arity param params operand_kind operand
+    operands order single region flags role of_cells instruction declaration item ended_item items machine
 lambda_rtl_is_readable = record { rules = record { depth = 1; rules = elim [ any_expr ↦ refl ] }; start = refl }
 
 -- the rule is read as its grammar is
@@ -266,22 +251,22 @@ pub expr_unrolls : (tokens : List Lexeme)
     → reads lambda_rtl (nonterminal any_expr) tokens ≡ reads lambda_rtl expr tokens
 expr_unrolls = unroll lambda_rtl lambda_rtl_is_readable.rules any_expr
 
--- what the loops repeat can be repeated
-pub next_effect_repeats : is_clean lambda_rtl (repetition next_effect) ≡ true
-unfolding next_expr exprs arguments address cell assigned after_target simple guard effect next_effect expr
-    resized built argument after_name
-next_effect_repeats = refl
+-- each phrase of a list has a token
+pub effect_shortens : Shortens (reads lambda_rtl effect)
+unfolding next_expr exprs arguments address cell assigned after_target simple guard effect expr resized built argument
+    after_name
+effect_shortens = shortens_of lambda_rtl lambda_rtl_is_readable.rules effect refl refl
 
-pub next_param_repeats : is_clean lambda_rtl (repetition next_param) ≡ true
-unfolding arity param next_param
-next_param_repeats = refl
+pub param_shortens : Shortens (reads lambda_rtl param)
+unfolding arity param
+param_shortens = shortens_of lambda_rtl lambda_rtl_is_readable.rules param refl refl
 
-pub next_operand_repeats : is_clean lambda_rtl (repetition next_operand) ≡ true
-unfolding operand_kind operand next_operand
-next_operand_repeats = refl
+pub operand_shortens : Shortens (reads lambda_rtl operand)
+unfolding operand_kind operand
+operand_shortens = shortens_of lambda_rtl lambda_rtl_is_readable.rules operand refl refl
 
-pub ended_item_repeats : is_clean lambda_rtl (repetition ended_item) ≡ true
+pub ended_item_shortens : Shortens (reads lambda_rtl ended_item)
 unfolding next_expr exprs arguments address argument cell after_name resized built expr assigned after_target simple
-    guard effect next_effect rtl arity param next_param some_params params operand_kind operand next_operand
-    some_operands operands order single region flags role of_cells instruction declaration item ended_item
-ended_item_repeats = refl
+    guard effect rtl arity param params operand_kind operand operands order single region flags role of_cells
+    instruction declaration item ended_item
+ended_item_shortens = shortens_of lambda_rtl lambda_rtl_is_readable.rules ended_item refl refl

@@ -1,2 +1,3 @@
 pub mod LambdaRtl
+pub mod Named
 pub mod Printed

@@ -1,16 +1,18 @@
 -- What is printed for a tree, and that each text of the tree spells it.
-use Rattle.std.specs.Prelude.{ℕ, Bool, true, false, List, [], ◌∷◌, ◌++◌, map, Option, None, Some, codes, ◌≡◌}
+use Rattle.std.specs.Prelude.{ℕ, Bool, true, false, List, [], ◌∷◌, ◌++◌, Option, None, Some, codes, ◌≡◌}
 use Rattle.std.specs.List.{flat_map}
 use Rattle.std.proofs.Common.{refl, ap, sym, ◌∙◌}
-use Rattle.qc_text.specs.declared.cursor.Ident.{Ident}
-use Rattle.qc_text.specs.Numerals.{number_in}
-use Rattle.qc_text.specs.Lexeme.{Lexeme, ident_of}
-use Rattle.qc_text.specs.Grammar.{Grammar}
-use Rattle.qc_text.specs.Language.{IsPhrase}
-use Rattle.qc_text.specs.Spelled as spell
-use Rattle.qc_text.specs.Spaced.{Words, joined, after_separators}
-use Rattle.qc_text.specs.Printing.{as_text, digits}
-use Rattle.qc_text.specs.declared.number.Number.{Number}
+use Rattle.qc_grammar.specs.declared.cursor.Ident.{Ident}
+use Rattle.qc_grammar.specs.Lexeme.{number_in}
+use Rattle.qc_grammar.specs.Lexeme.{Lexeme, ident_of}
+use Rattle.qc_grammar.specs.Grammar.{Grammar}
+use Rattle.qc_grammar.specs.Language.{IsPhrase}
+use Rattle.qc_grammar.specs.Spelled.{spellings}
+use Rattle.qc_grammar.specs.Law.SeparatedWords.{joined_words}
+use Rattle.qc_grammar.specs.Law.Spelling as spell
+use Rattle.qc_text.specs.PrintedWords.{Words, joined}
+use Rattle.qc_grammar.specs.Printing.{as_text, digits, next_words, separated_words}
+use Rattle.qc_grammar.specs.declared.cursor.Number.{Number}
 use Rattle.qc_lrtl.specs.declared.syntax.Expr.{Expr, fold-Expr, fold-roll-Expr}
 use Rattle.qc_lrtl.specs.declared.syntax.Expr.TheVariants as expr
 use Rattle.qc_lrtl.specs.declared.syntax.Expr.TheOpen.{Expr-F, Literal, Input, After, Mem, Zx, Sx, Slice, Name, Call, Cell}
@@ -28,7 +30,7 @@ use Rattle.qc_lrtl.specs.declared.syntax.Item.{Item}
 use Rattle.qc_lrtl.specs.declared.syntax.Item.TheVariants as fact
 use Rattle.qc_lrtl.specs.declared.syntax.RawMachine.{RawMachine}
 use Rattle.qc_lrtl.specs.LambdaRtl as grammar
-use Rattle.qc_lrtl.specs.LambdaRtl.{Rule, TreeOf, any_expr, lambda_rtl, machine, reserved}
+use Rattle.qc_lrtl.specs.LambdaRtl.{Rule, TreeOf, any_expr, lambda_rtl, machine}
 
 abbrev pub expr_layer : Expr-F Words → Words
 expr_layer (Literal value bits) = digits value ∷ codes "'" ∷ digits bits ∷ []
@@ -45,21 +47,6 @@ expr_layer (Cell space cell) = space.text ∷ codes "[" ∷ digits cell ∷ code
 -- the words of an expression
 unfoldable pub expr_words : Expr → Words
 expr_words = fold-Expr Words expr_layer
-
--- a comma and an expression
-unfoldable pub comma_words : Expr → Words
-comma_words e = codes "," ∷ expr_words e
-
--- expressions with a comma between them
-abbrev pub exprs_words : List Expr → Words
-exprs_words [] = []
-exprs_words (x ∷ xs) = expr_words x ++ flat_map comma_words xs
-
-joined_words : (xs : List Expr) → joined (codes ",") (map expr_words xs) ≡ exprs_words xs
-unfolding comma_words
-joined_words [] = refl
-joined_words (x ∷ xs) =
-    ap (λ ws. expr_words x ++ ws) (after_separators (codes ",") expr_words comma_words (λ y. refl) xs)
 
 pub expr_words-literal : (value bits : Number)
     → expr_words (expr.Literal value bits) ≡ digits value ∷ codes "'" ∷ digits bits ∷ []
@@ -106,11 +93,11 @@ unfolding expr_words
 expr_words-name name = ap expr_words (sym (expr.rolls-Name name)) ∙ fold-roll-Expr Words expr_layer (Name name)
 
 pub expr_words-call : (name : Ident) (args : List Expr)
-    → expr_words (expr.Call name args) ≡ name.text ∷ codes "(" ∷ (exprs_words args ++ codes ")" ∷ [])
+    → expr_words (expr.Call name args) ≡ name.text ∷ codes "(" ∷ (separated_words (codes ",") expr_words args ++ codes ")" ∷ [])
 unfolding expr_words
 expr_words-call name args =
     ap expr_words (sym (expr.rolls-Call name args)) ∙ fold-roll-Expr Words expr_layer (Call name args)
-    ∙ ap (λ ws. name.text ∷ codes "(" ∷ (ws ++ codes ")" ∷ [])) (joined_words args)
+    ∙ ap (λ ws. name.text ∷ codes "(" ∷ (ws ++ codes ")" ∷ [])) (joined_words (codes ",") expr_words args)
 
 pub expr_words-cell : (space : Ident) (cell : Number)
     → expr_words (expr.Cell space cell) ≡ space.text ∷ codes "[" ∷ digits cell ∷ codes "]" ∷ []
@@ -130,7 +117,7 @@ simple_words (target.Mem token bits address value) =
     codes "mem" ∷ digits bits ∷ codes "[" ∷ ((expr_words address ++ codes "]" ∷ []) ++ assigned_words value)
 simple_words (target.Name name value) = name.text ∷ assigned_words value
 simple_words (target.Cell space cell value) = space.text ∷ codes "[" ∷ digits cell ∷ codes "]" ∷ assigned_words value
-simple_words (target.Use name args) = name.text ∷ codes "(" ∷ (exprs_words args ++ codes ")" ∷ [])
+simple_words (target.Use name args) = name.text ∷ codes "(" ∷ (separated_words (codes ",") expr_words args ++ codes ")" ∷ [])
 
 abbrev pub guard_words : Option Guard → Words
 guard_words None = []
@@ -140,14 +127,9 @@ guard_words (Some guard) = codes "when" ∷ (expr_words guard.condition ++ codes
 unfoldable pub effect_words : Effect → Words
 effect_words e = guard_words e.guard ++ simple_words e.simple
 
--- a bar and an effect
-unfoldable pub bar_words : Effect → Words
-bar_words e = codes "|" ∷ effect_words e
-
 -- effects with a bar between them
 abbrev pub rtl_words : List Effect → Words
-rtl_words [] = []
-rtl_words (x ∷ xs) = effect_words x ++ flat_map bar_words xs
+rtl_words = separated_words (codes "|") effect_words
 
 abbrev pub arity_words : Option Number → Words
 arity_words None = []
@@ -156,15 +138,8 @@ arity_words (Some arity) = codes "/" ∷ digits arity ∷ []
 unfoldable pub param_words : Param → Words
 param_words p = p.name.text ∷ arity_words p.arity
 
-unfoldable pub comma_param_words : Param → Words
-comma_param_words p = codes "," ∷ param_words p
-
-abbrev pub some_params_words : List Param → Words
-some_params_words [] = []
-some_params_words (x ∷ xs) = param_words x ++ flat_map comma_param_words xs
-
 abbrev pub params_words : List Param → Words
-params_words params = codes "(" ∷ (some_params_words params ++ codes ")" ∷ [])
+params_words params = codes "(" ∷ (separated_words (codes ",") param_words params ++ codes ")" ∷ [])
 
 abbrev pub operand_kind_words : OperandKind → Words
 operand_kind_words (Register space) = space.text ∷ []
@@ -174,15 +149,8 @@ operand_kind_words (Address token) = codes "addr" ∷ []
 unfoldable pub operand_words : Operand → Words
 operand_words o = o.name.text ∷ codes ":" ∷ operand_kind_words o.kind
 
-unfoldable pub comma_operand_words : Operand → Words
-comma_operand_words o = codes "," ∷ operand_words o
-
-abbrev pub some_operands_words : List Operand → Words
-some_operands_words [] = []
-some_operands_words (x ∷ xs) = operand_words x ++ flat_map comma_operand_words xs
-
 abbrev pub operands_words : List Operand → Words
-operands_words operands = codes "(" ∷ (some_operands_words operands ++ codes ")" ∷ [])
+operands_words operands = codes "(" ∷ (separated_words (codes ",") operand_words operands ++ codes ")" ∷ [])
 
 abbrev pub order_words : ByteOrder → Words
 order_words Little = codes "little" ∷ []
@@ -250,14 +218,14 @@ Spells g words_of = spell.EachSpells as_text rule_words g (λ words x. words ≡
 
 expr_spells : Spells grammar.expr expr_words
 unfolding grammar.expr grammar.after_name grammar.arguments grammar.exprs grammar.next_expr grammar.cell
-    grammar.built grammar.resized grammar.address grammar.argument comma_words
+    grammar.built grammar.resized grammar.address grammar.argument next_words
 expr_spells = (
   (λ t q u. sym (expr_words-literal (number_in t) (number_in u))),
   (
     (λ n. (
       (λ t. (
         (λ u. sym (expr_words-call (ident_of n) [])),
-        (λ x. (comma_words, (λ u y. refl), λ xs u. sym (expr_words-call (ident_of n) (x ∷ xs)))),
+        (λ x. (next_words (codes ",") expr_words, (λ u y. refl), λ xs u. sym (expr_words-call (ident_of n) (x ∷ xs)))),
       )),
       (
         (λ t k u. sym (expr_words-cell (ident_of n) (number_in k))),
@@ -285,13 +253,13 @@ expr_spells = (
 
 simple_spells : Spells grammar.simple simple_words
 unfolding grammar.simple grammar.address grammar.assigned grammar.after_target grammar.cell
-    grammar.arguments grammar.exprs grammar.next_expr comma_words
+    grammar.arguments grammar.exprs grammar.next_expr next_words
 simple_spells = (
   (λ n. (
     (λ t x. refl),
     (
       (λ t k u v x. refl),
-      (λ t. ((λ u. refl), (λ x. (comma_words, (λ u y. refl), λ xs u. refl)))),
+      (λ t. ((λ u. refl), (λ x. (next_words (codes ",") expr_words, (λ u y. refl), λ xs u. refl)))),
     ),
   )),
   (
@@ -308,11 +276,11 @@ effect_spells = (
 )
 
 rtl_spells : Spells grammar.rtl rtl_words
-unfolding grammar.rtl grammar.next_effect bar_words
+unfolding grammar.rtl next_words
 rtl_spells =
     spell.spelled as_text rule_words grammar.effect effect_words effect_spells _
     (λ x. (
-      bar_words,
+      next_words (codes "|") effect_words,
       (λ t. spell.spelled as_text rule_words grammar.effect effect_words effect_spells _ (λ y. refl)),
       λ xs. refl,
     ))
@@ -322,12 +290,12 @@ unfolding grammar.param grammar.arity param_words
 param_spells = λ n. ((λ t k. refl), refl)
 
 params_spells : Spells grammar.params params_words
-unfolding grammar.params grammar.some_params grammar.next_param comma_param_words
+unfolding grammar.params next_words
 params_spells = λ t. (
   (λ u. refl),
   spell.spelled as_text rule_words grammar.param param_words param_spells _
       (λ x. (
-        comma_param_words,
+        next_words (codes ",") param_words,
         (λ u. spell.spelled as_text rule_words grammar.param param_words param_spells _
             (λ y. refl)),
         λ xs u. refl,
@@ -339,12 +307,12 @@ unfolding grammar.operand grammar.operand_kind operand_words
 operand_spells = λ n t. ((λ m. refl), ((λ u k. refl), (λ u. refl)))
 
 operands_spells : Spells grammar.operands operands_words
-unfolding grammar.operands grammar.some_operands grammar.next_operand comma_operand_words
+unfolding grammar.operands next_words
 operands_spells = λ t. (
   (λ u. refl),
   spell.spelled as_text rule_words grammar.operand operand_words operand_spells _
       (λ x. (
-        comma_operand_words,
+        next_words (codes ",") operand_words,
         (λ u. spell.spelled as_text rule_words grammar.operand operand_words operand_spells _
             (λ y. refl)),
         λ xs u. refl,
@@ -386,7 +354,7 @@ machine_spells = λ t n u. (
 
 -- each text of a machine spells its words
 pub machine_texts : (tokens : List Lexeme) (raw : RawMachine) → IsPhrase lambda_rtl machine tokens raw
-    → spell.spellings as_text tokens ≡ machine_words raw
+    → spellings as_text tokens ≡ machine_words raw
 machine_texts tokens raw phrase =
     spell.texts_spell as_text lambda_rtl rule_words (elim [ any_expr ↦ expr_spells ]) machine machine_words
     machine_spells tokens raw phrase

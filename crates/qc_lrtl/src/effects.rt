@@ -1,13 +1,14 @@
 //! The reader of effects.
 ghost use Rattle.std.specs.Prelude.{◌≡◌};
-ghost use Rattle.qc_text.specs.Gives.{Gives};
-ghost use Rattle.qc_text.specs.Reading.{reads};
-ghost use Rattle.qc_text.specs.Grammar.{onto};
-ghost use Rattle.qc_lrtl.specs.LambdaRtl.{lambda_rtl, after_target, simple, guard, effect, next_effect, rtl};
+ghost use Rattle.qc_grammar.specs.ReaderResult.{Gives};
+ghost use Rattle.qc_grammar.specs.Reading.{reads};
+ghost use Rattle.qc_grammar.specs.Grammar.{onto};
+ghost use Rattle.qc_lrtl.specs.LambdaRtl.{lambda_rtl, after_target, simple, guard, effect, rtl};
 
 use crate::expressions::{read_address, read_any_expr, read_arguments, read_assigned, read_cell};
 use crate::syntax::{Effect, Guard, Simple};
-use qc_text::{Cursor, Ident, Kind, Stop};
+use qc_grammar::{Cursor, Ident, Phrase, Stop, read_separated};
+use qc_text::Kind;
 use sqlite_items::Items;
 use std::alloc::Global;
 
@@ -93,25 +94,22 @@ fn read_effect(alloc: Global, cursor: &mut Cursor<'_>) -> Result<Effect, Stop>
     Ok(Effect { guard, simple })
 }
 
-#[tactic(auto, unfolding(crate::specs::LambdaRtl::next_effect))]
-fn read_next_effect(alloc: Global, cursor: &mut Cursor<'_>) -> Result<Effect, Stop>
-    ensures { Gives result cursor.old cursor.new (reads lambda_rtl next_effect) }
-{
-    cursor.word(b"|")?;
-    read_effect(alloc, cursor)
+impl Phrase for Effect {
+    ghost use Rattle.qc_grammar.specs.Reading.{reads};
+    ghost use Rattle.qc_lrtl.specs.LambdaRtl.{lambda_rtl, effect, effect_shortens};
+
+    ghost reading = { reads lambda_rtl effect };
+
+    ghost shortens = { effect_shortens };
+
+    fn read(alloc: Global, cursor: &mut Cursor<'_>) -> Result<Effect, Stop> {
+        read_effect(alloc, cursor)
+    }
 }
 
 #[tactic(auto, unfolding(crate::specs::LambdaRtl::rtl))]
 pub(crate) fn read_rtl(alloc: Global, cursor: &mut Cursor<'_>) -> Result<Items<Effect>, Stop>
     ensures { Gives result cursor.old cursor.new (reads lambda_rtl rtl) }
 {
-    let mut effects = Items::new(alloc);
-    effects.push(read_effect(alloc, cursor)?)?;
-    while cursor.is_word(b"|") {
-        match read_next_effect(alloc, cursor) {
-            Ok(effect) => effects.push(effect)?,
-            Err(stop) => return Err(stop),
-        }
-    }
-    Ok(effects)
+    read_separated::<Effect>(alloc, cursor, b"|")
 }

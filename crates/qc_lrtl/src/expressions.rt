@@ -1,13 +1,14 @@
 //! The reader of expressions.
 ghost use Rattle.std.specs.Prelude.{◌≡◌};
-ghost use Rattle.qc_text.specs.Gives.{Gives};
-ghost use Rattle.qc_text.specs.Reading.{reads};
-ghost use Rattle.qc_text.specs.Grammar.{nonterminal, onto};
+ghost use Rattle.qc_grammar.specs.ReaderResult.{Gives};
+ghost use Rattle.qc_grammar.specs.Reading.{reads};
+ghost use Rattle.qc_grammar.specs.Grammar.{nonterminal, onto};
 ghost use Rattle.qc_lrtl.specs.LambdaRtl.{lambda_rtl, any_expr, next_expr, exprs, arguments, address, argument};
 ghost use Rattle.qc_lrtl.specs.LambdaRtl.{cell, after_name, resized, built, expr, assigned};
 
 use crate::syntax::Expr;
-use qc_text::{Cursor, Ident, Kind, Number, Stop};
+use qc_grammar::{Cursor, Ident, Number, Stop};
+use qc_text::Kind;
 use sqlite_items::{Boxed, Items};
 use std::alloc::Global;
 

@@ -1,8 +1,8 @@
 //! The reader of items: facts of a machine, and declarations.
 ghost use Rattle.std.specs.Prelude.{◌≡◌};
-ghost use Rattle.qc_text.specs.Gives.{Gives};
-ghost use Rattle.qc_text.specs.Reading.{reads, first, next_in};
-ghost use Rattle.qc_text.specs.Grammar.{nonterminal};
+ghost use Rattle.qc_grammar.specs.ReaderResult.{Gives};
+ghost use Rattle.qc_grammar.specs.Reading.{reads, first, next_in};
+ghost use Rattle.qc_grammar.specs.Grammar.{nonterminal};
 ghost use Rattle.qc_lrtl.specs.LambdaRtl.{lambda_rtl, order, single, region, flags, role, of_cells, instruction};
 ghost use Rattle.qc_lrtl.specs.LambdaRtl.{declaration, item, ended_item, items};
 
@@ -10,7 +10,8 @@ use crate::effects::read_rtl;
 use crate::expressions::read_any_expr;
 use crate::params::{read_operands, read_params};
 use crate::syntax::{ByteOrder, Item};
-use qc_text::{Cursor, Kind, Stop};
+use qc_grammar::{Beginning, Cursor, Phrase, Stop, read_many};
+use qc_text::Kind;
 use sqlite_items::Items;
 use std::alloc::Global;
 
@@ -257,16 +258,33 @@ fn read_ended_item(alloc: Global, cursor: &mut Cursor<'_>) -> Result<Item, Stop>
     Ok(item)
 }
 
+impl Phrase for Item {
+    ghost use Rattle.qc_grammar.specs.Reading.{reads};
+    ghost use Rattle.qc_lrtl.specs.LambdaRtl.{lambda_rtl, ended_item, ended_item_shortens};
+
+    ghost reading = { reads lambda_rtl ended_item };
+
+    ghost shortens = { ended_item_shortens };
+
+    fn read(alloc: Global, cursor: &mut Cursor<'_>) -> Result<Item, Stop> {
+        read_ended_item(alloc, cursor)
+    }
+}
+
+impl Beginning for Item {
+    ghost use Rattle.qc_grammar.specs.Reading.{first};
+    ghost use Rattle.qc_lrtl.specs.LambdaRtl.{lambda_rtl, ended_item};
+
+    ghost classes = { first lambda_rtl ended_item };
+
+    fn begins(cursor: &Cursor<'_>) -> bool {
+        begins_item(cursor)
+    }
+}
+
 #[tactic(auto, unfolding(crate::specs::LambdaRtl::items))]
 pub(crate) fn read_items(alloc: Global, cursor: &mut Cursor<'_>) -> Result<Items<Item>, Stop>
     ensures { Gives result cursor.old cursor.new (reads lambda_rtl items) }
 {
-    let mut items = Items::new(alloc);
-    while begins_item(cursor) {
-        match read_ended_item(alloc, cursor) {
-            Ok(item) => items.push(item)?,
-            Err(stop) => return Err(stop),
-        }
-    }
-    Ok(items)
+    read_many::<Item>(alloc, cursor)
 }

@@ -1,7 +1,7 @@
 //! A fact about all trees. A caller of the function has its `ensures`; no code runs.
 ghost use Rattle.std.specs.Prelude.{◌≡◌};
-ghost use Rattle.qc_text.specs.Spelled.{AreSameTrees};
-ghost use Rattle.qc_text.specs.Printing.{as_text};
+ghost use Rattle.qc_grammar.specs.Spelled.{AreSameTrees};
+ghost use Rattle.qc_grammar.specs.Printing.{as_text};
 ghost use Rattle.qc_lrtl.specs.declared.syntax.RawMachine.{RawMachine};
 ghost use Rattle.qc_lrtl.specs.LambdaRtl.{lambda_rtl, machine};
 ghost use Rattle.qc_lrtl.specs.Printed.{machine_words};

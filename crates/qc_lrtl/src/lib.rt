@@ -2,6 +2,7 @@
 //! systems", LCTES 1998): their trees, the reader and the printer.
 #![tactic(auto)]
 
+mod effect_writer;
 mod effects;
 mod expressions;
 mod items;
@@ -17,6 +18,3 @@ pub use syntax::{
     ByteOrder, Effect, Expr, Guard, Item, Operand, OperandKind, Param, RawMachine, Simple,
 };
 pub use writer::write_lrtl;
-
-#[cfg(test)]
-mod tests;

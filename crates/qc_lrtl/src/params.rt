@@ -1,12 +1,13 @@
 //! The reader of parameters and operands.
 ghost use Rattle.std.specs.Prelude.{◌≡◌};
-ghost use Rattle.qc_text.specs.Gives.{Gives};
-ghost use Rattle.qc_text.specs.Reading.{reads};
-ghost use Rattle.qc_lrtl.specs.LambdaRtl.{lambda_rtl, arity, param, next_param, some_params, params, operand_kind};
-ghost use Rattle.qc_lrtl.specs.LambdaRtl.{operand, next_operand, some_operands, operands};
+ghost use Rattle.qc_grammar.specs.ReaderResult.{Gives};
+ghost use Rattle.qc_grammar.specs.Reading.{reads};
+ghost use Rattle.qc_lrtl.specs.LambdaRtl.{lambda_rtl, arity, param, params, operand_kind};
+ghost use Rattle.qc_lrtl.specs.LambdaRtl.{operand, operands};
 
 use crate::syntax::{Operand, OperandKind, Param};
-use qc_text::{Cursor, Kind, Number, Stop};
+use qc_grammar::{Cursor, Number, Phrase, Stop, read_separated};
+use qc_text::Kind;
 use sqlite_items::Items;
 use std::alloc::Global;
 
@@ -32,27 +33,17 @@ fn read_param(alloc: Global, cursor: &mut Cursor<'_>) -> Result<Param, Stop>
     Ok(Param { name, arity })
 }
 
-#[tactic(auto, unfolding(crate::specs::LambdaRtl::next_param))]
-fn read_next_param(alloc: Global, cursor: &mut Cursor<'_>) -> Result<Param, Stop>
-    ensures { Gives result cursor.old cursor.new (reads lambda_rtl next_param) }
-{
-    cursor.word(b",")?;
-    read_param(alloc, cursor)
-}
+impl Phrase for Param {
+    ghost use Rattle.qc_grammar.specs.Reading.{reads};
+    ghost use Rattle.qc_lrtl.specs.LambdaRtl.{lambda_rtl, param, param_shortens};
 
-#[tactic(auto, unfolding(crate::specs::LambdaRtl::some_params))]
-fn read_some_params(alloc: Global, cursor: &mut Cursor<'_>) -> Result<Items<Param>, Stop>
-    ensures { Gives result cursor.old cursor.new (reads lambda_rtl some_params) }
-{
-    let mut params = Items::new(alloc);
-    params.push(read_param(alloc, cursor)?)?;
-    while cursor.is_word(b",") {
-        match read_next_param(alloc, cursor) {
-            Ok(param) => params.push(param)?,
-            Err(stop) => return Err(stop),
-        }
+    ghost reading = { reads lambda_rtl param };
+
+    ghost shortens = { param_shortens };
+
+    fn read(alloc: Global, cursor: &mut Cursor<'_>) -> Result<Param, Stop> {
+        read_param(alloc, cursor)
     }
-    Ok(params)
 }
 
 #[tactic(auto, unfolding(crate::specs::LambdaRtl::params))]
@@ -64,7 +55,7 @@ pub(crate) fn read_params(alloc: Global, cursor: &mut Cursor<'_>) -> Result<Item
         cursor.word(b")")?;
         Ok(Items::new(alloc))
     } else {
-        let params = read_some_params(alloc, cursor)?;
+        let params = read_separated::<Param>(alloc, cursor, b",")?;
         cursor.word(b")")?;
         Ok(params)
     }
@@ -97,27 +88,17 @@ fn read_operand(alloc: Global, cursor: &mut Cursor<'_>) -> Result<Operand, Stop>
     Ok(Operand { name, kind })
 }
 
-#[tactic(auto, unfolding(crate::specs::LambdaRtl::next_operand))]
-fn read_next_operand(alloc: Global, cursor: &mut Cursor<'_>) -> Result<Operand, Stop>
-    ensures { Gives result cursor.old cursor.new (reads lambda_rtl next_operand) }
-{
-    cursor.word(b",")?;
-    read_operand(alloc, cursor)
-}
+impl Phrase for Operand {
+    ghost use Rattle.qc_grammar.specs.Reading.{reads};
+    ghost use Rattle.qc_lrtl.specs.LambdaRtl.{lambda_rtl, operand, operand_shortens};
 
-#[tactic(auto, unfolding(crate::specs::LambdaRtl::some_operands))]
-fn read_some_operands(alloc: Global, cursor: &mut Cursor<'_>) -> Result<Items<Operand>, Stop>
-    ensures { Gives result cursor.old cursor.new (reads lambda_rtl some_operands) }
-{
-    let mut operands = Items::new(alloc);
-    operands.push(read_operand(alloc, cursor)?)?;
-    while cursor.is_word(b",") {
-        match read_next_operand(alloc, cursor) {
-            Ok(operand) => operands.push(operand)?,
-            Err(stop) => return Err(stop),
-        }
+    ghost reading = { reads lambda_rtl operand };
+
+    ghost shortens = { operand_shortens };
+
+    fn read(alloc: Global, cursor: &mut Cursor<'_>) -> Result<Operand, Stop> {
+        read_operand(alloc, cursor)
     }
-    Ok(operands)
 }
 
 #[tactic(auto, unfolding(crate::specs::LambdaRtl::operands))]
@@ -129,7 +110,7 @@ pub(crate) fn read_operands(alloc: Global, cursor: &mut Cursor<'_>) -> Result<It
         cursor.word(b")")?;
         Ok(Items::new(alloc))
     } else {
-        let operands = read_some_operands(alloc, cursor)?;
+        let operands = read_separated::<Operand>(alloc, cursor, b",")?;
         cursor.word(b")")?;
         Ok(operands)
     }

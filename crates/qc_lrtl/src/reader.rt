@@ -1,17 +1,22 @@
 //! The reader of whole texts.
-ghost use Rattle.std.specs.Prelude.{◌≡◌, length};
-ghost use Rattle.qc_text.specs.Inside.{InSource, IsEnded};
-ghost use Rattle.qc_text.specs.Lexeme.{lexemes};
-ghost use Rattle.qc_text.specs.Gives.{Gives};
-ghost use Rattle.qc_text.specs.Reading.{reads};
-ghost use Rattle.qc_text.specs.Clean.{text};
-ghost use Rattle.qc_text.specs.Answer.{Answers};
-ghost use Rattle.qc_text.specs.TextAnswer.{AnswersText};
-ghost use Rattle.qc_lrtl.specs.LambdaRtl.{lambda_rtl, reserved, machine};
+ghost use Rattle.std.specs.Prelude.{◌≡◌, length, IfOk};
+ghost use Rattle.qc_grammar.specs.TokenSpans.{InSource, IsEnded};
+ghost use Rattle.qc_grammar.specs.Lexeme.{lexemes_from};
+ghost use Rattle.qc_grammar.specs.ReaderResult.{Gives};
+ghost use Rattle.qc_grammar.specs.Reading.{reads};
+ghost use Rattle.qc_grammar.specs.Grammar.{text};
+ghost use Rattle.qc_grammar.specs.Answer.{Answers};
+ghost use Rattle.qc_grammar.specs.TextAnswer.{AnswersText};
+ghost use Rattle.qc_lrtl.specs.LambdaRtl.{lambda_rtl, vocabulary, machine};
+ghost use Rattle.qc_lrtl.specs.Named.{AreNamed};
 
 use crate::items::read_items;
 use crate::syntax::RawMachine;
-use qc_text::{Cursor, Kind, ReadError, ReadTextEnd, Stop, Token, answer, begin, scan, settle};
+use qc_grammar::{
+    ClassedToken, Cursor, ReadError, ReadTextEnd, Stop, Vocabulary, answer, begin, is_reserved,
+    scan, settle,
+};
+use qc_text::{Kind, Token, texts_of_their_kinds};
 use std::alloc::Global;
 
 const RESERVED: [&[u8]; 34] = [
@@ -51,6 +56,19 @@ const RESERVED: [&[u8]; 34] = [
     b"slice",
 ];
 
+/// Which tokens are words of machine texts.
+struct LambdaRtlWords;
+
+impl Vocabulary for LambdaRtlWords {
+    ghost use Rattle.qc_lrtl.specs.LambdaRtl.{vocabulary as words};
+
+    ghost vocabulary = { words };
+
+    fn is_word(_source: &[u8], _before: &[Token], kind: Kind, text: &[u8]) -> bool {
+        is_reserved(&RESERVED, kind, text)
+    }
+}
+
 #[tactic(auto, unfolding(crate::specs::LambdaRtl::machine))]
 fn read_machine(alloc: Global, cursor: &mut Cursor<'_>) -> Result<RawMachine, Stop>
     ensures { Gives result cursor.old cursor.new (reads lambda_rtl machine) }
@@ -71,22 +89,29 @@ fn read_whole(alloc: Global, cursor: &mut Cursor<'_>) -> Result<RawMachine, Stop
 }
 
 /// The tree that the tokens of a source spell.
-fn read_tokens(alloc: Global, source: &[u8], tokens: &[Token]) -> Result<RawMachine, ReadError>
+fn read_tokens(
+    alloc: Global,
+    source: &[u8],
+    tokens: &[ClassedToken],
+) -> Result<RawMachine, ReadError>
     requires inside { InSource (length source.now) tokens.now }
     requires ended { IsEnded tokens.now }
-    ensures { Answers lambda_rtl machine (lexemes reserved source.now tokens.now) result }
+    ensures { Answers lambda_rtl machine (lexemes_from source.now 0 tokens.now) result }
 {
-    let (mut cursor, deep) = begin(source, &RESERVED, tokens);
+    let (mut cursor, deep) = begin(source, tokens);
     let given = cursor.left();
     let read = read_whole(alloc, &mut cursor);
     settle(read, deep, given, cursor.left())
 }
 
-/// The tree of a machine's text, with numbers of tokens counted from 0. A text has at most 200 open brackets.
+/// The tree of a machine's text, with numbers of tokens counted from 0. A text has at most 200 open brackets. The names
+/// that it declares are names: no reserved words.
 pub fn read_lrtl(alloc: Global, bytes: &[u8]) -> Result<RawMachine, ReadTextEnd>
-    ensures { AnswersText lambda_rtl machine reserved bytes.now result }
+    ensures answer { AnswersText lambda_rtl machine vocabulary bytes.now result }
+    ensures named { IfOk result AreNamed }
 {
-    match scan(alloc, bytes) {
+    texts_of_their_kinds();
+    match scan::<LambdaRtlWords>(alloc, bytes) {
         Ok(tokens) => answer(read_tokens(alloc, bytes, tokens.as_slice())),
         Err(end) => Err(end),
     }

@@ -1,6 +1,6 @@
 //! The syntax tree of a machine's text. A node keeps the number of its first token: its own `token`, or that of the
 //! name or the expression that it begins with.
-use qc_text::{Ident, Number};
+use qc_grammar::{Ident, Number};
 use sqlite_items::{Boxed, Items};
 
 /// The text of a machine.

@@ -1,251 +1,23 @@
 //! The printer: each word of a tree, and a blank after it.
-ghost use Rattle.std.specs.Prelude.{◌≡◌, ◌++◌, ◌∷◌, [], ◌<◌, length, drop, codes, ℕ, List, Ok, OnOk, IfOk};
-ghost use Rattle.std.specs.List.{flat_map};
-ghost use Rattle.qc_text.specs.Lexeme.{Lexeme};
-ghost use Rattle.qc_text.specs.Language.{IsPhrase};
-ghost use Rattle.qc_text.specs.TextAnswer.{IsTextAnswer};
-ghost use Rattle.qc_text.specs.Spaced.{spaced};
-ghost use Rattle.qc_text.specs.Spelled.{spellings};
-ghost use Rattle.qc_text.specs.Printing.{as_text, digits, IsTextOf};
-ghost use Rattle.qc_lrtl.specs.LambdaRtl.{lambda_rtl, machine, reserved};
-ghost use Rattle.qc_lrtl.specs.Printed.{expr_words, exprs_words, comma_words, assigned_words};
-ghost use Rattle.qc_lrtl.specs.Printed.{simple_words, guard_words, effect_words, rtl_words, bar_words};
-ghost use Rattle.qc_lrtl.specs.Printed.{arity_words, param_words, comma_param_words, params_words};
-ghost use Rattle.qc_lrtl.specs.Printed.{some_params_words, operand_kind_words, operand_words, comma_operand_words};
-ghost use Rattle.qc_lrtl.specs.Printed.{operands_words, some_operands_words};
-ghost use Rattle.qc_lrtl.specs.Printed.{order_words, flags_words, item_words, ended_words, machine_words};
-ghost use Rattle.qc_lrtl.specs.Printed.{IsDeclaration};
+ghost use Rattle.std.specs.Prelude.{◌≡◌, ◌++◌, ◌∷◌, [], codes, ℕ, List, Ok, OnOk, IfOk};
+ghost use Rattle.qc_grammar.specs.Lexeme.{Lexeme};
+ghost use Rattle.qc_grammar.specs.Language.{IsPhrase};
+ghost use Rattle.qc_grammar.specs.TextAnswer.{IsTextAnswer};
+ghost use Rattle.qc_text.specs.PrintedWords.{spaced};
+ghost use Rattle.qc_grammar.specs.Spelled.{spellings};
+ghost use Rattle.qc_grammar.specs.Printing.{as_text, digits, IsTextOf, IsTreeOf};
+ghost use Rattle.qc_lrtl.specs.LambdaRtl.{lambda_rtl, machine, vocabulary};
+ghost use Rattle.qc_lrtl.specs.Printed.{arity_words, param_words, params_words, operand_kind_words};
+ghost use Rattle.qc_lrtl.specs.Printed.{operand_words, operands_words, order_words, flags_words};
+ghost use Rattle.qc_lrtl.specs.Printed.{item_words, ended_words, machine_words, IsDeclaration};
 
-use crate::syntax::{
-    ByteOrder, Effect, Expr, Guard, Item, Operand, OperandKind, Param, RawMachine, Simple,
+use crate::effect_writer::write_expr;
+use crate::syntax::{ByteOrder, Item, Operand, OperandKind, Param, RawMachine};
+use qc_grammar::{
+    Ident, Number, Printed, printed_tokens_are_tokens, put, put_number, write_many, write_separated,
 };
-use qc_text::{
-    Ident, Number, one_end, printed_tokens_are_tokens, put, put_number, texts_of_their_kinds,
-    words_are_tokens,
-};
-use sqlite_items::Boxed;
+use qc_text::{one_end, texts_of_their_kinds, words_are_tokens};
 use std::alloc::{AllocError, Global};
-
-#[tactic(auto, using(crate::proofs::Writing::writing))]
-#[cycle(expressions)]
-fn write_expr(alloc: Global, out: &mut Vec<u8>, expr: &Expr) -> Result<(), AllocError>
-    ensures { OnOk result (out.new.items ≡ out.old.items ++ spaced (expr_words expr.now)) }
-{
-    match expr {
-        Expr::Literal { value, bits } => {
-            put_number(alloc, out, value)?;
-            put(out, b"'")?;
-            put_number(alloc, out, bits)
-        }
-        Expr::Input { .. } => put(out, b"input"),
-        Expr::After { .. } => put(out, b"after"),
-        Expr::Mem { bits, address, .. } => write_memory(alloc, out, bits, address.get()),
-        Expr::Zx { bits, arg, .. } => {
-            put(out, b"zx")?;
-            put_number(alloc, out, bits)?;
-            write_argument(alloc, out, arg)
-        }
-        Expr::Sx { bits, arg, .. } => {
-            put(out, b"sx")?;
-            put_number(alloc, out, bits)?;
-            write_argument(alloc, out, arg)
-        }
-        Expr::Slice { low, bits, arg, .. } => {
-            put(out, b"slice")?;
-            put_number(alloc, out, low)?;
-            put_number(alloc, out, bits)?;
-            write_argument(alloc, out, arg)
-        }
-        Expr::Name { name } => put(out, name.text.as_slice()),
-        Expr::Call { name, args } => write_call(alloc, out, name, args.as_slice()),
-        Expr::Cell { space, cell } => write_place(alloc, out, space, cell),
-    }
-}
-
-/// The word of so many bits at an address.
-#[tactic(auto, using(crate::proofs::Writing::writing))]
-#[cycle(expressions)]
-fn write_memory(
-    alloc: Global,
-    out: &mut Vec<u8>,
-    bits: &Number,
-    address: &Expr,
-) -> Result<(), AllocError>
-    ensures { OnOk result (out.new.items ≡ out.old.items
-        ++ spaced (codes "mem" ∷ digits bits.now ∷ codes "[" ∷ (expr_words address.now ++ codes "]" ∷ []))) }
-{
-    put(out, b"mem")?;
-    put_number(alloc, out, bits)?;
-    put(out, b"[")?;
-    write_expr(alloc, out, address)?;
-    put(out, b"]")
-}
-
-/// A cell of a space.
-#[tactic(auto, using(crate::proofs::Writing::writing))]
-fn write_place(
-    alloc: Global,
-    out: &mut Vec<u8>,
-    space: &Ident,
-    cell: &Number,
-) -> Result<(), AllocError>
-    ensures { OnOk result (out.new.items ≡ out.old.items
-        ++ spaced (space.now.text ∷ codes "[" ∷ digits cell.now ∷ codes "]" ∷ [])) }
-{
-    put(out, space.text.as_slice())?;
-    put(out, b"[")?;
-    put_number(alloc, out, cell)?;
-    put(out, b"]")
-}
-
-/// A name with its arguments.
-#[tactic(auto, using(crate::proofs::Writing::writing))]
-#[cycle(expressions)]
-fn write_call(
-    alloc: Global,
-    out: &mut Vec<u8>,
-    name: &Ident,
-    args: &[Expr],
-) -> Result<(), AllocError>
-    ensures { OnOk result (out.new.items ≡ out.old.items
-        ++ spaced (name.now.text ∷ codes "(" ∷ (exprs_words args.now ++ codes ")" ∷ []))) }
-{
-    put(out, name.text.as_slice())?;
-    put(out, b"(")?;
-    write_exprs(alloc, out, args)?;
-    put(out, b")")
-}
-
-/// An expression between parentheses.
-#[tactic(auto, using(crate::proofs::Writing::writing))]
-#[cycle(expressions)]
-fn write_argument(alloc: Global, out: &mut Vec<u8>, arg: &Boxed<Expr>) -> Result<(), AllocError>
-    ensures { OnOk result (out.new.items
-        ≡ out.old.items ++ spaced (codes "(" ∷ (expr_words arg.now ++ codes ")" ∷ []))) }
-{
-    put(out, b"(")?;
-    write_expr(alloc, out, arg.get())?;
-    put(out, b")")
-}
-
-#[cycle(expressions)]
-fn write_exprs(alloc: Global, out: &mut Vec<u8>, exprs: &[Expr]) -> Result<(), AllocError>
-    ensures { OnOk result (out.new.items ≡ out.old.items ++ spaced (exprs_words exprs.now)) }
-{
-    if exprs.is_empty() {
-        return Ok(());
-    }
-    write_expr(alloc, out, &exprs[0])?;
-    write_more_exprs(alloc, out, exprs)
-}
-
-/// The expressions after the first, each with a comma before it.
-#[tactic(auto, unfolding(crate::specs::Printed::comma_words), using(crate::proofs::Writing::writing))]
-#[cycle(expressions)]
-fn write_more_exprs(alloc: Global, out: &mut Vec<u8>, exprs: &[Expr]) -> Result<(), AllocError>
-    requires { 0 < length exprs.now }
-    ensures { OnOk result (out.new.items ≡ out.old.items ++ spaced (flat_map comma_words (drop 1 exprs.now))) }
-{
-    for place in 1..exprs.len() {
-        put(out, b",")?;
-        write_expr(alloc, out, &exprs[place])?;
-    }
-    Ok(())
-}
-
-#[tactic(auto, using(crate::proofs::Writing::writing))]
-fn write_assigned(alloc: Global, out: &mut Vec<u8>, value: &Expr) -> Result<(), AllocError>
-    ensures { OnOk result (out.new.items ≡ out.old.items ++ spaced (assigned_words value.now)) }
-{
-    put(out, b":=")?;
-    write_expr(alloc, out, value)
-}
-
-/// An assignment to what one word names.
-#[tactic(auto, using(crate::proofs::Writing::writing))]
-fn write_set(alloc: Global, out: &mut Vec<u8>, word: &[u8], value: &Expr) -> Result<(), AllocError>
-    ensures { OnOk result (out.new.items ≡ out.old.items ++ spaced (word.now ∷ assigned_words value.now)) }
-{
-    put(out, word)?;
-    write_assigned(alloc, out, value)
-}
-
-#[tactic(auto, using(crate::proofs::Writing::writing))]
-fn write_simple(alloc: Global, out: &mut Vec<u8>, simple: &Simple) -> Result<(), AllocError>
-    ensures { OnOk result (out.new.items ≡ out.old.items ++ spaced (simple_words simple.now)) }
-{
-    match simple {
-        Simple::Pc { value, .. } => write_set(alloc, out, b"pc", value),
-        Simple::Out { value, .. } => write_set(alloc, out, b"out", value),
-        Simple::Halt { value, .. } => write_set(alloc, out, b"halt", value),
-        Simple::Trap { value, .. } => write_set(alloc, out, b"trap", value),
-        Simple::Mem {
-            bits,
-            address,
-            value,
-            ..
-        } => {
-            write_memory(alloc, out, bits, address)?;
-            write_assigned(alloc, out, value)
-        }
-        Simple::Name { name, value } => write_set(alloc, out, name.text.as_slice(), value),
-        Simple::Cell { space, cell, value } => {
-            write_place(alloc, out, space, cell)?;
-            write_assigned(alloc, out, value)
-        }
-        Simple::Use { name, args } => write_call(alloc, out, name, args.as_slice()),
-    }
-}
-
-#[tactic(auto, using(crate::proofs::Writing::writing))]
-fn write_guard(alloc: Global, out: &mut Vec<u8>, guard: &Option<Guard>) -> Result<(), AllocError>
-    ensures { OnOk result (out.new.items ≡ out.old.items ++ spaced (guard_words guard.now)) }
-{
-    match guard {
-        None => Ok(()),
-        Some(guard) => {
-            put(out, b"when")?;
-            write_expr(alloc, out, &guard.condition)?;
-            put(out, b"=>")
-        }
-    }
-}
-
-#[tactic(auto, unfolding(crate::specs::Printed::effect_words), using(crate::proofs::Writing::writing))]
-fn write_effect(alloc: Global, out: &mut Vec<u8>, effect: &Effect) -> Result<(), AllocError>
-    ensures { OnOk result (out.new.items ≡ out.old.items ++ spaced (effect_words effect.now)) }
-{
-    write_guard(alloc, out, &effect.guard)?;
-    write_simple(alloc, out, &effect.simple)
-}
-
-/// The effects after the first, each with a bar before it.
-#[tactic(auto, unfolding(crate::specs::Printed::bar_words), using(crate::proofs::Writing::writing))]
-fn write_more_effects(
-    alloc: Global,
-    out: &mut Vec<u8>,
-    effects: &[Effect],
-) -> Result<(), AllocError>
-    requires { 0 < length effects.now }
-    ensures { OnOk result (out.new.items ≡ out.old.items ++ spaced (flat_map bar_words (drop 1 effects.now))) }
-{
-    for place in 1..effects.len() {
-        put(out, b"|")?;
-        write_effect(alloc, out, &effects[place])?;
-    }
-    Ok(())
-}
-
-#[tactic(auto, using(crate::proofs::Writing::writing))]
-fn write_rtl(alloc: Global, out: &mut Vec<u8>, effects: &[Effect]) -> Result<(), AllocError>
-    ensures { OnOk result (out.new.items ≡ out.old.items ++ spaced (rtl_words effects.now)) }
-{
-    if effects.is_empty() {
-        return Ok(());
-    }
-    write_effect(alloc, out, &effects[0])?;
-    write_more_effects(alloc, out, effects)
-}
 
 #[tactic(auto, using(crate::proofs::Writing::writing))]
 fn write_arity(alloc: Global, out: &mut Vec<u8>, arity: &Option<Number>) -> Result<(), AllocError>
@@ -268,29 +40,14 @@ fn write_param(alloc: Global, out: &mut Vec<u8>, param: &Param) -> Result<(), Al
     write_arity(alloc, out, &param.arity)
 }
 
-/// The parameters after the first, each with a comma before it.
-#[tactic(auto, unfolding(crate::specs::Printed::comma_param_words), using(crate::proofs::Writing::writing))]
-fn write_more_params(alloc: Global, out: &mut Vec<u8>, params: &[Param]) -> Result<(), AllocError>
-    requires { 0 < length params.now }
-    ensures { OnOk result (out.new.items
-        ≡ out.old.items ++ spaced (flat_map comma_param_words (drop 1 params.now))) }
-{
-    for place in 1..params.len() {
-        put(out, b",")?;
-        write_param(alloc, out, &params[place])?;
-    }
-    Ok(())
-}
+impl Printed for Param {
+    ghost use Rattle.qc_lrtl.specs.Printed.{param_words};
 
-#[tactic(auto, using(crate::proofs::Writing::writing))]
-fn write_some_params(alloc: Global, out: &mut Vec<u8>, params: &[Param]) -> Result<(), AllocError>
-    ensures { OnOk result (out.new.items ≡ out.old.items ++ spaced (some_params_words params.now)) }
-{
-    if params.is_empty() {
-        return Ok(());
+    ghost words = { param_words };
+
+    fn write(&self, alloc: Global, out: &mut Vec<u8>) -> Result<(), AllocError> {
+        write_param(alloc, out, self)
     }
-    write_param(alloc, out, &params[0])?;
-    write_more_params(alloc, out, params)
 }
 
 /// The parameters between parentheses, and the sign before a body.
@@ -299,7 +56,7 @@ fn write_params(alloc: Global, out: &mut Vec<u8>, params: &[Param]) -> Result<()
     ensures { OnOk result (out.new.items ≡ out.old.items ++ spaced (params_words params.now ++ codes "=" ∷ [])) }
 {
     put(out, b"(")?;
-    write_some_params(alloc, out, params)?;
+    write_separated(alloc, out, b",", params)?;
     put(out, b")")?;
     put(out, b"=")
 }
@@ -327,37 +84,14 @@ fn write_operand(alloc: Global, out: &mut Vec<u8>, operand: &Operand) -> Result<
     write_kind(alloc, out, &operand.kind)
 }
 
-/// The operands after the first, each with a comma before it.
-#[tactic(auto, unfolding(crate::specs::Printed::comma_operand_words), using(crate::proofs::Writing::writing))]
-fn write_more_operands(
-    alloc: Global,
-    out: &mut Vec<u8>,
-    operands: &[Operand],
-) -> Result<(), AllocError>
-    requires { 0 < length operands.now }
-    ensures { OnOk result (out.new.items
-        ≡ out.old.items ++ spaced (flat_map comma_operand_words (drop 1 operands.now))) }
-{
-    for place in 1..operands.len() {
-        put(out, b",")?;
-        write_operand(alloc, out, &operands[place])?;
-    }
-    Ok(())
-}
+impl Printed for Operand {
+    ghost use Rattle.qc_lrtl.specs.Printed.{operand_words};
 
-#[tactic(auto, using(crate::proofs::Writing::writing))]
-fn write_some_operands(
-    alloc: Global,
-    out: &mut Vec<u8>,
-    operands: &[Operand],
-) -> Result<(), AllocError>
-    ensures { OnOk result (out.new.items ≡ out.old.items ++ spaced (some_operands_words operands.now)) }
-{
-    if operands.is_empty() {
-        return Ok(());
+    ghost words = { operand_words };
+
+    fn write(&self, alloc: Global, out: &mut Vec<u8>) -> Result<(), AllocError> {
+        write_operand(alloc, out, self)
     }
-    write_operand(alloc, out, &operands[0])?;
-    write_more_operands(alloc, out, operands)
 }
 
 /// The operands between parentheses, and the sign before a body.
@@ -366,7 +100,7 @@ fn write_operands(alloc: Global, out: &mut Vec<u8>, operands: &[Operand]) -> Res
     ensures { OnOk result (out.new.items ≡ out.old.items ++ spaced (operands_words operands.now ++ codes "=" ∷ [])) }
 {
     put(out, b"(")?;
-    write_some_operands(alloc, out, operands)?;
+    write_separated(alloc, out, b",", operands)?;
     put(out, b")")?;
     put(out, b"=")
 }
@@ -483,7 +217,7 @@ fn write_declaration(alloc: Global, out: &mut Vec<u8>, item: &Item) -> Result<()
             put(out, b"eff")?;
             put(out, name.text.as_slice())?;
             write_params(alloc, out, params.as_slice())?;
-            write_rtl(alloc, out, body.as_slice())
+            write_separated(alloc, out, b"|", body.as_slice())
         }
         Item::Instruction {
             name,
@@ -494,7 +228,7 @@ fn write_declaration(alloc: Global, out: &mut Vec<u8>, item: &Item) -> Result<()
             put(out, b"instr")?;
             put(out, name.text.as_slice())?;
             write_operands(alloc, out, operands.as_slice())?;
-            write_rtl(alloc, out, body.as_slice())
+            write_separated(alloc, out, b"|", body.as_slice())
         }
         _ => Ok(()),
     }
@@ -535,15 +269,23 @@ fn write_item(alloc: Global, out: &mut Vec<u8>, item: &Item) -> Result<(), Alloc
     }
 }
 
+/// An item and a semicolon.
 #[tactic(auto, unfolding(crate::specs::Printed::ended_words), using(crate::proofs::Writing::writing))]
-fn write_items(alloc: Global, out: &mut Vec<u8>, items: &[Item]) -> Result<(), AllocError>
-    ensures { OnOk result (out.new.items ≡ out.old.items ++ spaced (flat_map ended_words items.now)) }
+fn write_ended(alloc: Global, out: &mut Vec<u8>, item: &Item) -> Result<(), AllocError>
+    ensures { OnOk result (out.new.items ≡ out.old.items ++ spaced (ended_words item.now)) }
 {
-    for item in items {
-        write_item(alloc, out, item)?;
-        put(out, b";")?;
+    write_item(alloc, out, item)?;
+    put(out, b";")
+}
+
+impl Printed for Item {
+    ghost use Rattle.qc_lrtl.specs.Printed.{ended_words};
+
+    ghost words = { ended_words };
+
+    fn write(&self, alloc: Global, out: &mut Vec<u8>) -> Result<(), AllocError> {
+        write_ended(alloc, out, self)
     }
-    Ok(())
 }
 
 #[tactic(auto, using(crate::proofs::Writing::writing))]
@@ -553,17 +295,19 @@ fn write_machine(alloc: Global, out: &mut Vec<u8>, raw: &RawMachine) -> Result<(
     put(out, b"machine")?;
     put(out, raw.name.text.as_slice())?;
     put(out, b";")?;
-    write_items(alloc, out, raw.items.as_slice())
+    write_many(alloc, out, raw.items.as_slice())
 }
 
-/// A text of the tree: the words of each text that has this tree, numbers in decimal, with a blank after each. Where a
-/// file has this tree, the text is read again as the same tree but for the numbers of tokens.
+/// A text of the tree: the words of each text that has this tree, numbers in decimal, with a blank after each. Where it
+/// is a tree of the grammar, as that of a file is, the text is read again as the same tree but for the numbers of tokens.
 pub fn write_lrtl(alloc: Global, raw: &RawMachine) -> Result<Vec<u8>, AllocError>
     ensures words { IfOk result (λ out. (tokens : List Lexeme) → IsPhrase lambda_rtl machine tokens raw.now
         → out.items ≡ spaced (spellings as_text tokens)) }
-    ensures again { IfOk result (λ out. (bytes : List ℕ)
-        → IsTextAnswer lambda_rtl machine reserved bytes (Ok raw.now)
-        → IsTextOf as_text lambda_rtl machine reserved raw.now out.items) }
+    ensures again { IfOk result (λ out. IsTreeOf lambda_rtl machine vocabulary raw.now
+        → IsTextOf as_text lambda_rtl machine vocabulary raw.now out.items) }
+    ensures file_again { IfOk result (λ out. (bytes : List ℕ)
+        → IsTextAnswer lambda_rtl machine vocabulary bytes (Ok raw.now)
+        → IsTextOf as_text lambda_rtl machine vocabulary raw.now out.items) }
 {
     words_are_tokens();
     texts_of_their_kinds();

@@ -2,7 +2,7 @@
 use Rattle.std.proofs.Common.{◌≡◌, ◌≢◌, ◌<◌, ◌≤◌, ◌^◌, ◌+◌, ◌∙◌, inl, inr, ℕ, suc, List, [], ◌∷◌, ◌++◌, All, Some, map, length, take, drop, get_or, ap, sym, refl, subst, arith, append_assoc, length-append}
 use Rattle.std.specs.List.{slice_get}
 use Rattle.std.proofs.Math.Seq.{drop-cons}
-use Rattle.std.proofs.lemmas.List.{get_or_append_left, map-append, take-append-drop, take_more}
+use Rattle.std.proofs.lemmas.List.{get_or_append_left, map-append, same_from_push, take-append-drop, take_more}
 use Rattle.std.proofs.lemmas.List.Elements.{All-head, All-map, All-tail}
 use Rattle.std.proofs.lemmas.Option.{slice_get-get_or}
 use Rattle.qc_text.specs.declared.token.Kind.TheVariants.{End, Number}
@@ -87,23 +87,12 @@ inside_at file bytes tokens front last d i cut e lt =
     (ap (λ xs. slice_get xs i) e ∙ slice_get-get_or (front ++ last ∷ []) i d more
     ∙ ap Some (get_or_append_left front (last ∷ []) d i lt))
 
--- the parts of two equal lists that end in one element each
-same_front : (xs ys : List Token) (x y : Token) → xs ++ x ∷ [] ≡ ys ++ y ∷ [] → (xs ≡ ys) × (x ≡ y)
-same_front [] [] x y e = (refl, cc)
-same_front [] (b ∷ ys) x y e = absurd (omega (arith, ap length e, length-append ys (y ∷ [])))
-same_front (a ∷ xs) [] x y e = absurd (omega (arith, ap length e, length-append xs (x ∷ [])))
-same_front (a ∷ xs) (b ∷ ys) x y e =
-    let rest : xs ++ x ∷ [] ≡ ys ++ y ∷ [] = cc in
-    let head : a ≡ b = cc in
-    let same = same_front xs ys x y rest in
-    (cc (same.0, head), same.1)
-
 pub input_found : EndsOnce → (word : ℕ) (bytes words : List ℕ) (tokens front : List Token) (last : Token) →
     AreTokens bytes tokens → tokens ≡ front ++ last ∷ [] → All (IsWordToken word bytes) front →
     words ≡ map (number_in bytes) front → IsInput word bytes words
 input_found ends word bytes words tokens front last cut e numbers values =
     let end = ends bytes tokens cut in
-    let same = same_front front end.0 last _ (sym e ∙ end.1) in
+    let same = same_from_push front end.0 last _ (sym e ∙ end.1) in
     record {
       front = front;
       last = last;
@@ -119,7 +108,7 @@ pub wrong_found : EndsOnce → (word : ℕ) (bytes : List ℕ) (tokens front : L
     IsWrongToken word bytes (get_or front i d).start
 wrong_found ends word bytes tokens front last d i cut e lt numbers wrong =
     let end = ends bytes tokens cut in
-    let same = same_front front end.0 last _ (sym e ∙ end.1) in
+    let same = same_from_push front end.0 last _ (sym e ∙ end.1) in
     let others : All (λ token. token.kind ≢ End) front = subst (All (λ token. token.kind ≢ End)) (sym same.0) end.2 in
     let parts : take i front ++ get_or front i d ∷ drop (suc i) front ≡ front =
     ap (λ rest. take i front ++ rest) (sym (drop-cons front i d lt)) ∙ take-append-drop i front in

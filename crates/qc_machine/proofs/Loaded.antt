@@ -60,6 +60,7 @@ loaded_is_state d image input words bytes = record {
   pc = one-le-pow d.facts.word 2 (omega arith);
   input = words;
   taken = omega arith;
+  ending = λ event is. cc;
 }
 
 pub loaded_is_machine : (d : Description) (image : Image) (input : List ℕ) → IsMachineOf d (loaded_state d image input)

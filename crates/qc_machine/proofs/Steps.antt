@@ -97,8 +97,8 @@ operands_fit d kinds xs (Immediate operand width) range (inl names) = (
   in_range_at d kinds xs operand (kind.Imm width) range names,
 )
 operands_fit d kinds xs (Immediate operand width) range (inr (names, is)) = (
-  omega (arith, slice_get_within kinds operand kind.Address names, length-in_range d kinds xs range),
-  subst (λ n. slice_index xs operand < 2 ^ n) (sym is) (in_range_at d kinds xs operand kind.Address range names),
+  omega (arith, slice_get_within kinds operand kind.Addr names, length-in_range d kinds xs range),
+  subst (λ n. slice_index xs operand < 2 ^ n) (sym is) (in_range_at d kinds xs operand kind.Addr range names),
 )
 operands_fit d kinds xs (Load width address) range names = operands_fit d kinds xs address range names
 operands_fit d kinds xs (NextInput width) range names = tt

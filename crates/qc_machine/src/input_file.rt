@@ -85,6 +85,3 @@ pub fn read_input(alloc: Global, bytes: &[u8], word: Width) -> Result<Vec<u64>, 
         Err(TextEnd::NoMemory) => Err(InputEnd::NoMemory),
     }
 }
-
-#[cfg(test)]
-mod tests;

@@ -1,10 +1,10 @@
 //! Laws of symbol tables and of the places of names. Each function here does nothing: its contract is the law.
 
-ghost use Rattle.std.specs.Prelude.{ℕ, ◌≡◌, ◌<◌, true, false, cond, ◌||◌, List, [], ◌∷◌, ◌++◌, length, take, slice_get, None, Some};
+ghost use Rattle.std.specs.Prelude.{ℕ, ◌≡◌, ◌<◌, true, false, cond, ◌||◌, List, [], ◌∷◌, ◌++◌, length, take, slice_get, None, Some, is_some};
 ghost use Rattle.std.specs.List.{list_any};
 ghost use Rattle.std.specs.Option.{option_or};
 ghost use Rattle.std.specs.Str.{bytes_eq};
-ghost use Rattle.qc_names.specs.Tables.{is_there, number_at, entered, names_in, first_place, IsIndexOf};
+ghost use Rattle.qc_names.specs.Tables.{number_at, entered, names_in, first_place, IsIndexOf};
 
 /// A table into which each of some names is entered with its place among them gives each name its first place, and no
 /// other name a number.
@@ -14,13 +14,13 @@ pub fn entered_names_have_their_places()
         IsIndexOf names es → place ≡ length names →
         IsIndexOf (names ++ name ∷ []) (entered es name place) }
     ensures found { (names : List (List ℕ)) (es : List (List ℕ × ℕ)) (name : List ℕ) → IsIndexOf names es →
-        is_there (number_at es name) ≡ list_any (bytes_eq name) names }
+        is_some (number_at es name) ≡ list_any (bytes_eq name) names }
 {}
 
 /// A name has a place where it is one of the names. There it stands, and nowhere before.
 pub fn first_places_are_first()
     ensures found { (names : List (List ℕ)) (name : List ℕ) →
-        is_there (first_place names name) ≡ list_any (bytes_eq name) names }
+        is_some (first_place names name) ≡ list_any (bytes_eq name) names }
     ensures within { (names : List (List ℕ)) (name : List ℕ) (place : ℕ) →
         first_place names name ≡ Some place → place < length names }
     ensures stands { (names : List (List ℕ)) (name : List ℕ) (place : ℕ) →
@@ -39,10 +39,10 @@ pub fn entered_names_have_their_numbers()
 /// The names that have a number are those of the entries, to which a name is added where it is new.
 pub fn tables_are_sets_of_names()
     ensures names { (es : List (List ℕ × ℕ)) (name : List ℕ) →
-        is_there (number_at es name) ≡ list_any (bytes_eq name) (names_in es) }
+        is_some (number_at es name) ≡ list_any (bytes_eq name) (names_in es) }
     ensures more { (es : List (List ℕ × ℕ)) (name : List ℕ) (number : ℕ) (other : List ℕ) →
-        is_there (number_at (entered es name number) other)
-        ≡ (bytes_eq name other || is_there (number_at es other)) }
+        is_some (number_at (entered es name number) other)
+        ≡ (bytes_eq name other || is_some (number_at es other)) }
     ensures listed { (es : List (List ℕ × ℕ)) (name : List ℕ) (number : ℕ) →
         names_in (entered es name number)
         ≡ cond (list_any (bytes_eq name) (names_in es)) (names_in es) (names_in es ++ name ∷ []) }

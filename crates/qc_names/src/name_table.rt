@@ -1,6 +1,6 @@
 //! Symbol tables: names with numbers.
-ghost use Rattle.std.specs.Prelude.{◌≡◌, [], OnOk, IfOk};
-ghost use Rattle.qc_names.specs.Tables.{is_there, number_at, entered};
+ghost use Rattle.std.specs.Prelude.{◌≡◌, [], OnOk, OnErr, IfOk, is_some};
+ghost use Rattle.qc_names.specs.Tables.{number_at, entered};
 
 use indexmap::IndexMap;
 use std::alloc::{AllocError, Global};
@@ -39,8 +39,9 @@ impl NameTable {
 
     /// Enters a name with a number, unless the name is there. Answers whether it was there.
     pub fn enter(&mut self, alloc: Global, name: &[u8], number: usize) -> Result<bool, AllocError>
-        ensures was { IfOk result (λ was. was ≡ is_there (number_at self.old name.now)) }
+        ensures was { IfOk result (λ was. was ≡ is_some (number_at self.old name.now)) }
         ensures after { OnOk result (self.new ≡ entered self.old name.now number) }
+        ensures kept { OnErr result (self.new ≡ self.old) }
     {
         if self.number(name).is_some() {
             return Ok(true);

@@ -1,6 +1,6 @@
--- Calls that are told to fail, by their numbers, which are counted from 1.
+-- Calls that are to fail, by their numbers, which are counted from 1.
 use Rattle.std.specs.Prelude.{ℕ, List, Contains}
-use Rattle.qc_outside.specs.Faults.{next_count}
+use Rattle.qc_outside.specs.FaultCounts.{next_count}
 use Rattle.qc_outside.specs.declared.calls.Calls.{Calls}
 
 -- the call after so many is one of those that are to fail

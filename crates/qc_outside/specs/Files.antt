@@ -28,7 +28,7 @@ file_limit = 4194304
 abbrev pub OthersStay : List ℕ → Files → Files → Type 0
 OthersStay name old new = (other : List ℕ) → other ≢ name → get new other ≡ get old other
 
--- the same where the files are told, which doesn't change
-abbrev pub OthersStayTold : List ℕ → Option Files → Option Files → Type 0
-OthersStayTold name old new =
+-- where the files are known, they are known afterwards, and every file but the named one is as before
+abbrev pub OthersStayKnown : List ℕ → Option Files → Option Files → Type 0
+OthersStayKnown name old new =
     (is_some new ≡ is_some old) × IfSome old (λ o. IfSome new (λ n. OthersStay name o n))

@@ -1,5 +1,6 @@
 pub mod Calls
-pub mod Faults
+pub mod FaultCounts
 pub mod Files
 pub mod MemoryFiles
 pub mod MemoryOut
+pub mod OutputPieces

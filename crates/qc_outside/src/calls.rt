@@ -1,7 +1,7 @@
-//! Calls that are told to fail.
+//! Calls that are to fail.
 ghost use Rattle.std.specs.Prelude.{◌≡◌, ◌≤◌, ◌↔◌, IsTrue, if◌then◌else◌};
 ghost use Rattle.qc_outside.specs.Calls.{NextFails};
-ghost use Rattle.qc_outside.specs.Faults.{next_count};
+ghost use Rattle.qc_outside.specs.FaultCounts.{next_count};
 
 /// The calls made so far, from 1, the numbers of those that fail, and how many have failed.
 #[derive(Debug, Drop)]

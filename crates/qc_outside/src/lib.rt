@@ -8,4 +8,4 @@ mod outside;
 
 pub use memory_files::MemShelf;
 pub use memory_out::MemOut;
-pub use outside::{Out, ReadEnd, Shelf, StoreEnd, is_too_long, wanted_after};
+pub use outside::{NoMemory, Out, ReadEnd, Shelf, StoreEnd, is_too_long, wanted_after};

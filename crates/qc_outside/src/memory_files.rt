@@ -3,13 +3,12 @@ ghost use Rattle.std.specs.Prelude.{◌≡◌, ◌<◌, ◌≤◌, ◌↔◌, �
 ghost use Rattle.std.specs.Prelude.{length, string_bytes, option_copied};
 ghost use Rattle.std.specs.FinMap.{get, insert};
 ghost use Rattle.qc_outside.specs.Calls.{NextFails, calls_of, failing_of, faults_of};
-ghost use Rattle.qc_outside.specs.Faults.{next_count};
+ghost use Rattle.qc_outside.specs.FaultCounts.{next_count};
 ghost use Rattle.qc_outside.specs.Files.{content_of, file_limit, OthersStay};
 ghost use Rattle.qc_outside.specs.MemoryFiles.{files_from, files_of, FailsToRead, NoneBefore, IsFirst};
 
 use crate::calls::Calls;
-use crate::outside::{ReadEnd, Shelf, StoreEnd, is_too_long};
-use qc_text::NoMemory;
+use crate::outside::{NoMemory, ReadEnd, Shelf, StoreEnd, is_too_long};
 use std::alloc::Global;
 
 /// The place of the first pair of the name, from 0.
@@ -144,6 +143,3 @@ impl Shelf for MemShelf {
         }
     }
 }
-
-#[cfg(test)]
-mod tests;

@@ -1,11 +1,16 @@
-ghost use Rattle.std.specs.Prelude.{◌≡◌, ◌≤◌, ◌<◌, ◌+◌, ◌-◌, ◌++◌, ℕ, List, Option, Some, is_some, length};
-ghost use Rattle.std.specs.Prelude.{string_bytes, IfOk, IfSome, IsTrue, OnOk, IsErrOf, ◌↔◌};
+ghost use Rattle.std.specs.Prelude.{◌≡◌, ◌≤◌, ◌<◌, ◌+◌, ◌-◌, ◌++◌, ℕ, List, Option, length};
+ghost use Rattle.std.specs.Prelude.{string_bytes, IfOk, IfSome, IsTrue, OnOk, OnErr, IsErrOf, ◌↔◌};
+ghost use Rattle.std.specs.List.{concat};
 ghost use Rattle.std.specs.Option.{option_map};
 ghost use Rattle.std.specs.FinMap.{insert};
-ghost use Rattle.qc_outside.specs.Faults.{next_count};
-ghost use Rattle.qc_outside.specs.Files.{Files, content_of, file_limit, OthersStayTold};
+ghost use Rattle.qc_outside.specs.FaultCounts.{next_count};
+ghost use Rattle.qc_outside.specs.Files.{Files, content_of, file_limit, OthersStayKnown};
+ghost use Rattle.qc_outside.specs.OutputPieces.{AddsPiece, AddsPart};
 
-use std::alloc::Global;
+use std::alloc::{AllocError, Global};
+
+/// Memory was wanting.
+pub type NoMemory = AllocError;
 
 /// The most bytes that a file may have.
 const FILE_LIMIT: usize = 4_194_304;
@@ -49,10 +54,10 @@ pub enum StoreEnd {
 
 /// Files by name.
 ///
-/// A shelf may tell its files, which are then a map from names to contents, and counts its faults: each call that fails
+/// The files of a shelf may be known, as a map from names to contents. A shelf counts its faults: each call that fails
 /// raises the count by one, and no other call changes it. At its last value, that of 64 bits, it stands still.
 pub trait Shelf {
-    /// The files, where they are told.
+    /// The files, where they are known.
     ghost files: { Self → Option Files };
 
     /// How many calls have failed.
@@ -75,7 +80,7 @@ pub trait Shelf {
         ensures ok { OnOk result (files self.new
             ≡ option_map (λ f. insert f (string_bytes name.now) bytes.now) (files self.old)) }
         ensures failed { IsErrOf result StoreEnd.Failed → faults self.new ≡ next_count (faults self.old) }
-        ensures others { OthersStayTold (string_bytes name.now) (files self.old) (files self.new) }
+        ensures others { OthersStayKnown (string_bytes name.now) (files self.old) (files self.new) }
         ensures no_memory { IsErrOf result StoreEnd.NoMemory → files self.new ≡ files self.old }
         ensures kept { (IsErrOf result StoreEnd.Failed → ⊥) → faults self.new ≡ faults self.old }
         ensures later { faults self.old ≤ faults self.new };
@@ -83,9 +88,13 @@ pub trait Shelf {
 
 /// Where lines are put.
 ///
-/// An output may tell the bytes that it was given, and counts its faults as a shelf does.
+/// What an output was given may be known: pieces of bytes, one for each call that put one, and the bytes of all of them
+/// in a row. An output counts its faults as a shelf does.
 pub trait Out {
-    /// The bytes so far, where they are told.
+    /// The pieces so far, where they are known.
+    ghost pieces: { Self → Option (List (List ℕ)) };
+
+    /// The bytes so far, where they are known.
     ghost written: { Self → Option (List ℕ) };
 
     /// How many calls have failed.
@@ -94,10 +103,16 @@ pub trait Out {
     /// Puts the piece after the bytes so far. Where this fails, a prefix of the piece may have been put.
     fn put(&mut self, alloc: Global, piece: &[u8]) -> Result<(), StoreEnd>
         ensures ok { OnOk result (written self.new ≡ option_map (λ w. w ++ piece.now) (written self.old)) }
+        ensures whole { OnOk result (AddsPiece piece.now (pieces self.old) (pieces self.new)) }
         ensures failed { IsErrOf result StoreEnd.Failed → faults self.new ≡ next_count (faults self.old) }
         ensures prefix { (part more : List ℕ) × (piece.now ≡ part ++ more)
             × (written self.new ≡ option_map (λ w. w ++ part) (written self.old)) }
+        ensures part { OnErr result (AddsPart piece.now (pieces self.old) (pieces self.new)) }
         ensures no_memory { IsErrOf result StoreEnd.NoMemory → written self.new ≡ written self.old }
+        ensures no_piece { IsErrOf result StoreEnd.NoMemory → pieces self.new ≡ pieces self.old }
         ensures kept { (IsErrOf result StoreEnd.Failed → ⊥) → faults self.new ≡ faults self.old }
         ensures later { faults self.old ≤ faults self.new };
+
+    /// The bytes are those of the pieces, in their order.
+    ghost joined: { (out : Self) → written out ≡ option_map concat (pieces out) };
 }

@@ -1,2 +1,4 @@
+pub mod Blocks
+pub mod PrintedBlocks
 pub mod Sample
 pub mod Printed

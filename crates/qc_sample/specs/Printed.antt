@@ -2,15 +2,17 @@
 use Rattle.std.specs.Prelude.{ℕ, List, [], ◌∷◌, ◌++◌, map, Option, None, Some, codes, ◌≡◌}
 use Rattle.std.specs.List.{flat_map}
 use Rattle.std.proofs.Common.{refl, ap, sym, ◌∙◌, append_assoc}
-use Rattle.qc_text.specs.declared.cursor.Ident.{Ident}
-use Rattle.qc_text.specs.Lexeme.{Lexeme, ident_of}
-use Rattle.qc_text.specs.Language.{IsPhrase}
-use Rattle.qc_text.specs.Numerals.{number_in}
-use Rattle.qc_text.specs.Spaced.{Words, joined, after_separators}
-use Rattle.qc_text.specs.Spelled as spell
-use Rattle.qc_text.specs.Printing.{as_text, digits}
-use Rattle.qc_text.specs.Grammar.{Grammar}
-use Rattle.qc_text.specs.declared.number.Number as number
+use Rattle.qc_grammar.specs.declared.cursor.Ident.{Ident}
+use Rattle.qc_grammar.specs.Lexeme.{Lexeme, ident_of}
+use Rattle.qc_grammar.specs.Language.{IsPhrase}
+use Rattle.qc_grammar.specs.Lexeme.{number_in}
+use Rattle.qc_text.specs.PrintedWords.{Words, joined}
+use Rattle.qc_grammar.specs.Spelled.{spellings}
+use Rattle.qc_grammar.specs.Law.SeparatedWords.{joined_words}
+use Rattle.qc_grammar.specs.Law.Spelling as spell
+use Rattle.qc_grammar.specs.Printing.{as_text, digits, next_words, separated_words}
+use Rattle.qc_grammar.specs.Grammar.{Grammar}
+use Rattle.qc_grammar.specs.declared.cursor.Number as number
 use Rattle.qc_sample.specs.declared.syntax.Expr.{Expr, fold-Expr, fold-roll-Expr}
 use Rattle.qc_sample.specs.declared.syntax.Expr.TheVariants as expr
 use Rattle.qc_sample.specs.declared.syntax.Expr.TheOpen.{Expr-F, Number, Name, Not, Call, Index, Group}
@@ -37,32 +39,17 @@ expr_layer (Group inner) = codes "(" ∷ (inner ++ codes ")" ∷ [])
 unfoldable pub expr_words : Expr → Words
 expr_words = fold-Expr Words expr_layer
 
--- a comma and an expression
-unfoldable pub comma_words : Expr → Words
-comma_words e = codes "," ∷ expr_words e
-
--- expressions with a comma between them
-abbrev pub exprs_words : List Expr → Words
-exprs_words [] = []
-exprs_words (x ∷ xs) = expr_words x ++ flat_map comma_words xs
-
-joined_words : (xs : List Expr) → joined (codes ",") (map expr_words xs) ≡ exprs_words xs
-unfolding comma_words
-joined_words [] = refl
-joined_words (x ∷ xs) =
-    ap (λ ws. expr_words x ++ ws) (after_separators (codes ",") expr_words comma_words (λ y. refl) xs)
-
 pub expr_words-number : (value : number.Number) → expr_words (expr.Number value) ≡ digits value ∷ []
 unfolding expr_words
 expr_words-number value = ap expr_words (sym (expr.rolls-Number value))
     ∙ fold-roll-Expr Words expr_layer (Number value)
 
 pub expr_words-call : (name : Ident) (args : List Expr)
-    → expr_words (expr.Call name args) ≡ name.text ∷ codes "(" ∷ (exprs_words args ++ codes ")" ∷ [])
+    → expr_words (expr.Call name args) ≡ name.text ∷ codes "(" ∷ (separated_words (codes ",") expr_words args ++ codes ")" ∷ [])
 unfolding expr_words
 expr_words-call name args =
     ap expr_words (sym (expr.rolls-Call name args)) ∙ fold-roll-Expr Words expr_layer (Call name args)
-    ∙ ap (λ ws. name.text ∷ codes "(" ∷ (ws ++ codes ")" ∷ [])) (joined_words args)
+    ∙ ap (λ ws. name.text ∷ codes "(" ∷ (ws ++ codes ")" ∷ [])) (joined_words (codes ",") expr_words args)
 
 pub expr_words-name : (name : Ident) → expr_words (expr.Name name) ≡ name.text ∷ []
 unfolding expr_words
@@ -90,10 +77,10 @@ type_words (Some name) = codes ":" ∷ name.text ∷ []
 abbrev pub statement_layer : Statement-F Words → Words
 statement_layer (Let name type_of value) =
     codes "let" ∷ name.text ∷ (type_words type_of ++ (codes "=" ∷ (expr_words value ++ codes ";" ∷ [])))
-statement_layer (Print values) = codes "print" ∷ (exprs_words values ++ codes ";" ∷ [])
+statement_layer (Print values) = codes "print" ∷ (separated_words (codes ",") expr_words values ++ codes ";" ∷ [])
 statement_layer (Block body) = codes "{" ∷ (flat_map (λ words. words) body ++ codes "}" ∷ [])
 statement_layer (Set name value) = name.text ∷ codes "=" ∷ (expr_words value ++ codes ";" ∷ [])
-statement_layer (Do name args) = name.text ∷ codes "(" ∷ (exprs_words args ++ codes ")" ∷ codes ";" ∷ [])
+statement_layer (Do name args) = name.text ∷ codes "(" ∷ (separated_words (codes ",") expr_words args ++ codes ")" ∷ codes ";" ∷ [])
 
 -- the words of a statement
 unfoldable pub statement_words : Statement → Words
@@ -108,7 +95,7 @@ statement_words-let name type_of value =
     ∙ fold-roll-Statement Words statement_layer (Let name type_of value)
 
 pub statement_words-print : (values : List Expr)
-    → statement_words (statement.Print values) ≡ codes "print" ∷ (exprs_words values ++ codes ";" ∷ [])
+    → statement_words (statement.Print values) ≡ codes "print" ∷ (separated_words (codes ",") expr_words values ++ codes ";" ∷ [])
 unfolding statement_words
 statement_words-print values = ap statement_words (sym (statement.rolls-Print values))
     ∙ fold-roll-Statement Words statement_layer (Print values)
@@ -128,7 +115,7 @@ statement_words-set name value = ap statement_words (sym (statement.rolls-Set na
 
 pub statement_words-do : (name : Ident) (args : List Expr)
     → statement_words (statement.Do name args)
-    ≡ name.text ∷ codes "(" ∷ (exprs_words args ++ codes ")" ∷ codes ";" ∷ [])
+    ≡ name.text ∷ codes "(" ∷ (separated_words (codes ",") expr_words args ++ codes ")" ∷ codes ";" ∷ [])
 unfolding statement_words
 statement_words-do name args = ap statement_words (sym (statement.rolls-Do name args))
     ∙ fold-roll-Statement Words statement_layer (Do name args)
@@ -147,7 +134,7 @@ Spells g words_of = spell.EachSpells as_text rule_words g (λ words x. words ≡
 
 -- one line for each alternative
 expr_spells : Spells grammar.expr expr_words
-unfolding grammar.expr grammar.after_name grammar.arguments grammar.exprs grammar.next_expr comma_words
+unfolding grammar.expr grammar.after_name grammar.arguments grammar.exprs grammar.next_expr next_words
 expr_spells = (
   (λ t. sym (expr_words-number (number_in t))),
   (
@@ -156,7 +143,7 @@ expr_spells = (
       (λ n. (
         (λ t. (
           (λ u. sym (expr_words-call (ident_of n) [])),
-          (λ x. (comma_words, (λ u y. refl), λ xs u. sym (expr_words-call (ident_of n) (x ∷ xs)))),
+          (λ x. (next_words (codes ",") expr_words, (λ u y. refl), λ xs u. sym (expr_words-call (ident_of n) (x ∷ xs)))),
         )),
         (
           (λ t a u. sym (expr_words-index (ident_of n) a)),
@@ -170,14 +157,14 @@ expr_spells = (
 
 statement_spells : Spells grammar.statement statement_words
 unfolding grammar.statement grammar.statements grammar.simple grammar.type_of grammar.arguments grammar.exprs
-    grammar.next_expr comma_words
+    grammar.next_expr next_words
 statement_spells = (
   (λ t n. (
     (λ u m v a w. sym (statement_words-let (ident_of n) (Some (ident_of m)) a)),
     (λ v a w. sym (statement_words-let (ident_of n) None a)),
   )),
   (
-    (λ t x. (comma_words, (λ u y. refl), λ xs u. sym (statement_words-print (x ∷ xs)))),
+    (λ t x. (next_words (codes ",") expr_words, (λ u y. refl), λ xs u. sym (statement_words-print (x ∷ xs)))),
     (
       (λ t. (statement_words, (λ a. refl), λ xs u. sym (statement_words-block xs))),
       (λ n. (
@@ -185,11 +172,11 @@ statement_spells = (
         (λ t. (
           (λ u v. sym (statement_words-do (ident_of n) [])),
           (λ x. (
-            comma_words,
+            next_words (codes ",") expr_words,
             (λ u y. refl),
             λ xs u v.
                 ap (λ ws. n.text ∷ codes "(" ∷ ws)
-                (append_assoc (expr_words x ++ flat_map comma_words xs) (codes ")" ∷ []) (codes ";" ∷ []))
+                (append_assoc (expr_words x ++ flat_map (next_words (codes ",") expr_words) xs) (codes ")" ∷ []) (codes ";" ∷ []))
                 ∙ sym (statement_words-do (ident_of n) (x ∷ xs)),
           )),
         )),
@@ -204,7 +191,7 @@ program_spells = λ t n u. (statement_words, (λ a. refl), λ xs. refl)
 
 -- each text of a program spells its words
 pub program_texts : (tokens : List Lexeme) (p : Program) → IsPhrase sample program tokens p
-    → spell.spellings as_text tokens ≡ program_words p
+    → spellings as_text tokens ≡ program_words p
 program_texts tokens p phrase =
     spell.texts_spell as_text sample rule_words (elim [ any_expr ↦ expr_spells | any_statement ↦ statement_spells ])
     program program_words program_spells tokens p phrase

@@ -1,11 +1,11 @@
 -- The grammar of the sample language, rule by rule. Words in quotes are reserved, and no names.
 use Rattle.std.specs.Prelude.{ℕ, List, [], ◌∷◌, Option, codes, ◌≡◌, refl}
-use Rattle.qc_text.specs.declared.cursor.Ident.{Ident}
-use Rattle.qc_text.specs.Lexeme.{Class, Word, Lexeme}
-use Rattle.qc_text.specs.Grammar.{Grammar, nonterminal, empty, repetition, ◌<+>◌, ◌*>◌, ◌<*◌, ◌<|>◌, ◌<$>◌, word, name, number, optional, Syntax}
-use Rattle.qc_text.specs.Reading.{reads}
-use Rattle.qc_text.specs.Clean.{IsReadable}
-use Rattle.qc_text.specs.Law.Fuel.{unroll}
+use Rattle.qc_grammar.specs.declared.cursor.Ident.{Ident}
+use Rattle.qc_grammar.specs.Lexeme.{Class, Word, Lexeme, Vocabulary, reserving}
+use Rattle.qc_grammar.specs.Grammar.{Grammar, nonterminal, empty, repetition, ◌<+>◌, ◌*>◌, ◌<*◌, ◌<|>◌, ◌<$>◌, word, name, number, optional, Syntax}
+use Rattle.qc_grammar.specs.Reading.{reads}
+use Rattle.qc_grammar.specs.Law.LL1.{IsReadable}
+use Rattle.qc_grammar.specs.Law.Fuel.{unroll}
 use Rattle.qc_sample.specs.declared.syntax.Expr.{Expr}
 use Rattle.qc_sample.specs.declared.syntax.Expr.TheVariants.{Number, Name, Not, Call, Index, Group}
 use Rattle.qc_sample.specs.declared.syntax.Statement.{Statement}
@@ -15,6 +15,10 @@ use Rattle.qc_sample.specs.declared.syntax.Program.{Program}
 -- the reserved words
 abbrev pub reserved : List (List ℕ)
 reserved = codes "program" ∷ codes "let" ∷ codes "print" ∷ codes "not" ∷ []
+
+-- They and punctuation are the words of the grammar.
+abbrev pub vocabulary : Vocabulary
+vocabulary = reserving reserved
 
 -- the rules that may come inside themselves
 pub data Rule : Type 0 where

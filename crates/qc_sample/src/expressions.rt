@@ -1,12 +1,13 @@
 //! The reader of expressions.
 ghost use Rattle.std.specs.Prelude.{◌≡◌};
-ghost use Rattle.qc_text.specs.Gives.{Gives};
-ghost use Rattle.qc_text.specs.Reading.{reads};
-ghost use Rattle.qc_text.specs.Grammar.{nonterminal, onto};
+ghost use Rattle.qc_grammar.specs.ReaderResult.{Gives};
+ghost use Rattle.qc_grammar.specs.Reading.{reads};
+ghost use Rattle.qc_grammar.specs.Grammar.{nonterminal, onto};
 ghost use Rattle.qc_sample.specs.Sample.{sample, any_expr, next_expr, exprs, arguments, after_name, expr};
 
 use crate::syntax::Expr;
-use qc_text::{Cursor, Ident, Kind, Stop};
+use qc_grammar::{Cursor, Ident, Stop};
+use qc_text::Kind;
 use sqlite_items::{Boxed, Items};
 use std::alloc::Global;
 

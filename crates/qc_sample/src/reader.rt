@@ -1,25 +1,40 @@
 //! The reader of whole texts.
 ghost use Rattle.std.specs.Prelude.{◌≡◌, length};
-ghost use Rattle.qc_text.specs.Inside.{InSource, IsEnded};
-ghost use Rattle.qc_text.specs.Lexeme.{lexemes};
-ghost use Rattle.qc_text.specs.Gives.{Gives};
-ghost use Rattle.qc_text.specs.Reading.{reads, first, next_in};
-ghost use Rattle.qc_text.specs.Grammar.{nonterminal, onto};
-ghost use Rattle.qc_text.specs.Clean.{text};
-ghost use Rattle.qc_text.specs.Answer.{Answers};
-ghost use Rattle.qc_text.specs.TextAnswer.{AnswersText};
-ghost use Rattle.qc_sample.specs.Sample.{sample, reserved, any_statement, type_of, simple, statement, statements};
+ghost use Rattle.qc_grammar.specs.TokenSpans.{InSource, IsEnded};
+ghost use Rattle.qc_grammar.specs.Lexeme.{lexemes_from};
+ghost use Rattle.qc_grammar.specs.ReaderResult.{Gives};
+ghost use Rattle.qc_grammar.specs.Reading.{reads, first, next_in};
+ghost use Rattle.qc_grammar.specs.Grammar.{nonterminal, onto};
+ghost use Rattle.qc_grammar.specs.Grammar.{text};
+ghost use Rattle.qc_grammar.specs.Answer.{Answers};
+ghost use Rattle.qc_grammar.specs.TextAnswer.{AnswersText};
+ghost use Rattle.qc_sample.specs.Sample.{sample, vocabulary, any_statement, type_of, simple, statement, statements};
 ghost use Rattle.qc_sample.specs.Sample.{program};
 
 use crate::expressions::{read_any_expr, read_arguments, read_exprs};
 use crate::syntax::{Program, Statement};
-use qc_text::{
-    Cursor, Ident, Kind, ReadError, ReadTextEnd, Stop, Token, answer, begin, scan, settle,
+use qc_grammar::{
+    ClassedToken, Cursor, Ident, ReadError, ReadTextEnd, Stop, Vocabulary, answer, begin,
+    is_reserved, scan, settle,
 };
+use qc_text::{Kind, Token};
 use sqlite_items::Items;
 use std::alloc::Global;
 
 const RESERVED: [&[u8]; 4] = [b"program", b"let", b"print", b"not"];
+
+/// Which tokens are words of the sample language.
+pub(crate) struct SampleWords;
+
+impl Vocabulary for SampleWords {
+    ghost use Rattle.qc_sample.specs.Sample.{vocabulary as words};
+
+    ghost vocabulary = { words };
+
+    fn is_word(_source: &[u8], _before: &[Token], kind: Kind, text: &[u8]) -> bool {
+        is_reserved(&RESERVED, kind, text)
+    }
+}
 
 #[tactic(auto, unfolding(crate::specs::Sample::type_of))]
 fn read_type(alloc: Global, cursor: &mut Cursor<'_>) -> Result<Option<Ident>, Stop>
@@ -136,12 +151,12 @@ fn read_whole(alloc: Global, cursor: &mut Cursor<'_>) -> Result<Program, Stop>
 }
 
 /// The tree that the tokens of a source spell.
-fn read_tokens(alloc: Global, source: &[u8], tokens: &[Token]) -> Result<Program, ReadError>
+fn read_tokens(alloc: Global, source: &[u8], tokens: &[ClassedToken]) -> Result<Program, ReadError>
     requires inside { InSource (length source.now) tokens.now }
     requires ended { IsEnded tokens.now }
-    ensures { Answers sample program (lexemes reserved source.now tokens.now) result }
+    ensures { Answers sample program (lexemes_from source.now 0 tokens.now) result }
 {
-    let (mut cursor, deep) = begin(source, &RESERVED, tokens);
+    let (mut cursor, deep) = begin(source, tokens);
     let given = cursor.left();
     let read = read_whole(alloc, &mut cursor);
     settle(read, deep, given, cursor.left())
@@ -149,9 +164,9 @@ fn read_tokens(alloc: Global, source: &[u8], tokens: &[Token]) -> Result<Program
 
 /// The tree of a program's text, with numbers of tokens counted from 0. A text has at most 200 open brackets.
 pub fn read_sample(alloc: Global, bytes: &[u8]) -> Result<Program, ReadTextEnd>
-    ensures { AnswersText sample program reserved bytes.now result }
+    ensures { AnswersText sample program vocabulary bytes.now result }
 {
-    match scan(alloc, bytes) {
+    match scan::<SampleWords>(alloc, bytes) {
         Ok(tokens) => answer(read_tokens(alloc, bytes, tokens.as_slice())),
         Err(end) => Err(end),
     }

@@ -1,5 +1,5 @@
 //! The syntax tree of a program.
-use qc_text::{Ident, Number};
+use qc_grammar::{Ident, Number};
 use sqlite_items::{Boxed, Items};
 
 /// An expression.

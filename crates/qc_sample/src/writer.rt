@@ -1,21 +1,19 @@
 //! The printer: each word of a tree, and a blank after it.
 ghost use Rattle.std.specs.Prelude.{◌≡◌, ◌++◌, ◌∷◌, [], ◌<◌, length, drop, codes, ℕ, List, Ok, OnOk, IfOk};
 ghost use Rattle.std.specs.List.{flat_map};
-ghost use Rattle.qc_text.specs.Lexeme.{Lexeme};
-ghost use Rattle.qc_text.specs.Language.{IsPhrase};
-ghost use Rattle.qc_text.specs.TextAnswer.{IsTextAnswer};
-ghost use Rattle.qc_text.specs.Spaced.{spaced};
-ghost use Rattle.qc_text.specs.Spelled.{spellings};
-ghost use Rattle.qc_text.specs.Printing.{as_text, IsTextOf};
-ghost use Rattle.qc_sample.specs.Sample.{sample, program, reserved};
-ghost use Rattle.qc_sample.specs.Printed.{expr_words, exprs_words, comma_words, type_words, statement_words};
+ghost use Rattle.qc_grammar.specs.Lexeme.{Lexeme};
+ghost use Rattle.qc_grammar.specs.Language.{IsPhrase};
+ghost use Rattle.qc_grammar.specs.TextAnswer.{IsTextAnswer};
+ghost use Rattle.qc_text.specs.PrintedWords.{spaced};
+ghost use Rattle.qc_grammar.specs.Spelled.{spellings};
+ghost use Rattle.qc_grammar.specs.Printing.{as_text, next_words, separated_words, IsTextOf, IsTreeOf};
+ghost use Rattle.qc_sample.specs.Sample.{sample, program, vocabulary};
+ghost use Rattle.qc_sample.specs.Printed.{expr_words, type_words, statement_words};
 ghost use Rattle.qc_sample.specs.Printed.{program_words};
 
 use crate::syntax::{Expr, Program, Statement};
-use qc_text::{
-    Ident, one_end, printed_tokens_are_tokens, put, put_number, texts_of_their_kinds,
-    words_are_tokens,
-};
+use qc_grammar::{Ident, printed_tokens_are_tokens, put, put_number};
+use qc_text::{one_end, texts_of_their_kinds, words_are_tokens};
 use std::alloc::{AllocError, Global};
 
 #[tactic(auto, using(crate::proofs::Writing::writing))]
@@ -55,7 +53,7 @@ fn write_call(
     args: &[Expr],
 ) -> Result<(), AllocError>
     ensures { OnOk result (out.new.items ≡ out.old.items
-        ++ spaced (name.now.text ∷ codes "(" ∷ (exprs_words args.now ++ codes ")" ∷ []))) }
+        ++ spaced (name.now.text ∷ codes "(" ∷ (separated_words (codes ",") expr_words args.now ++ codes ")" ∷ []))) }
 {
     put(out, name.text.as_slice())?;
     put(out, b"(")?;
@@ -65,7 +63,7 @@ fn write_call(
 
 #[cycle(expressions)]
 fn write_exprs(alloc: Global, out: &mut Vec<u8>, exprs: &[Expr]) -> Result<(), AllocError>
-    ensures { OnOk result (out.new.items ≡ out.old.items ++ spaced (exprs_words exprs.now)) }
+    ensures { OnOk result (out.new.items ≡ out.old.items ++ spaced (separated_words (codes ",") expr_words exprs.now)) }
 {
     if exprs.is_empty() {
         return Ok(());
@@ -75,11 +73,11 @@ fn write_exprs(alloc: Global, out: &mut Vec<u8>, exprs: &[Expr]) -> Result<(), A
 }
 
 /// The expressions after the first, each with a comma before it.
-#[tactic(auto, unfolding(crate::specs::Printed::comma_words), using(crate::proofs::Writing::writing))]
+#[tactic(auto, unfolding(qc_grammar::specs::Printing::next_words), using(crate::proofs::Writing::writing))]
 #[cycle(expressions)]
 fn write_more(alloc: Global, out: &mut Vec<u8>, exprs: &[Expr]) -> Result<(), AllocError>
     requires { 0 < length exprs.now }
-    ensures { OnOk result (out.new.items ≡ out.old.items ++ spaced (flat_map comma_words (drop 1 exprs.now))) }
+    ensures { OnOk result (out.new.items ≡ out.old.items ++ spaced (flat_map (next_words (codes ",") expr_words) (drop 1 exprs.now))) }
 {
     for place in 1..exprs.len() {
         put(out, b",")?;
@@ -171,14 +169,16 @@ fn write_program(alloc: Global, out: &mut Vec<u8>, p: &Program) -> Result<(), Al
     write_statements(alloc, out, p.body.as_slice())
 }
 
-/// A text of the tree: the words of each text that has this tree, numbers in decimal, with a blank after each. Where a
-/// file has this tree, the text is read again as the same tree but for the numbers of tokens.
+/// A text of the tree: the words of each text that has this tree, numbers in decimal, with a blank after each. Where it
+/// is a tree of the grammar, as that of a file is, the text is read again as the same tree but for the numbers of tokens.
 pub fn write_sample(alloc: Global, p: &Program) -> Result<Vec<u8>, AllocError>
     ensures words { IfOk result (λ out. (tokens : List Lexeme) → IsPhrase sample program tokens p.now
         → out.items ≡ spaced (spellings as_text tokens)) }
-    ensures again { IfOk result (λ out. (bytes : List ℕ)
-        → IsTextAnswer sample program reserved bytes (Ok p.now)
-        → IsTextOf as_text sample program reserved p.now out.items) }
+    ensures again { IfOk result (λ out. IsTreeOf sample program vocabulary p.now
+        → IsTextOf as_text sample program vocabulary p.now out.items) }
+    ensures file_again { IfOk result (λ out. (bytes : List ℕ)
+        → IsTextAnswer sample program vocabulary bytes (Ok p.now)
+        → IsTextOf as_text sample program vocabulary p.now out.items) }
 {
     words_are_tokens();
     texts_of_their_kinds();

@@ -1,14 +1,16 @@
 -- What is printed for a tree, and that each text of the tree spells it.
-use Rattle.std.specs.Prelude.{ℕ, List, [], ◌∷◌, ◌++◌, map, Option, None, Some, codes, ◌≡◌}
+use Rattle.std.specs.Prelude.{ℕ, List, [], ◌∷◌, ◌++◌, Option, None, Some, codes, ◌≡◌}
 use Rattle.std.specs.List.{flat_map}
 use Rattle.std.proofs.Common.{refl, ap, sym, ◌∙◌}
-use Rattle.qc_text.specs.declared.cursor.Ident.{Ident}
-use Rattle.qc_text.specs.Lexeme.{Lexeme, ident_of}
-use Rattle.qc_text.specs.Grammar.{Grammar}
-use Rattle.qc_text.specs.Language.{IsPhrase}
-use Rattle.qc_text.specs.Spelled as spell
-use Rattle.qc_text.specs.Spaced.{Words, joined, after_separators}
-use Rattle.qc_text.specs.Printing.{as_text, digits}
+use Rattle.qc_grammar.specs.declared.cursor.Ident.{Ident}
+use Rattle.qc_grammar.specs.Lexeme.{Lexeme, ident_of}
+use Rattle.qc_grammar.specs.Grammar.{Grammar}
+use Rattle.qc_grammar.specs.Language.{IsPhrase}
+use Rattle.qc_grammar.specs.Spelled.{spellings}
+use Rattle.qc_grammar.specs.Law.SeparatedWords.{joined_words}
+use Rattle.qc_grammar.specs.Law.Spelling as spell
+use Rattle.qc_text.specs.PrintedWords.{Words, joined}
+use Rattle.qc_grammar.specs.Printing.{as_text, digits, next_words, separated_words}
 use Rattle.qc_sled.specs.declared.syntax.Field.{Field}
 use Rattle.qc_sled.specs.declared.syntax.Reach.{Reach}
 use Rattle.qc_sled.specs.declared.syntax.Reach.TheVariants.{Relative, Absolute}
@@ -22,7 +24,7 @@ use Rattle.qc_sled.specs.declared.syntax.Item.{Item}
 use Rattle.qc_sled.specs.declared.syntax.Item.TheVariants as declaration
 use Rattle.qc_sled.specs.declared.syntax.RawCoding.{RawCoding}
 use Rattle.qc_sled.specs.Sled as grammar
-use Rattle.qc_sled.specs.Sled.{Rule, TreeOf, any_pattern, sled, coding, reserved}
+use Rattle.qc_sled.specs.Sled.{Rule, TreeOf, any_pattern, sled, coding}
 
 -- the words of a value
 unfoldable pub value_words : Value → Words
@@ -43,23 +45,6 @@ pattern_layer (Alternatives parts) = joined (codes "|") parts
 unfoldable pub pattern_words : Pattern → Words
 pattern_words = fold-Pattern Words pattern_layer
 
--- a separator and a pattern
-unfoldable pub next_words : List ℕ → Pattern → Words
-next_words separator p = separator ∷ pattern_words p
-
--- patterns with a separator between them
-abbrev pub parts_words : List ℕ → List Pattern → Words
-parts_words separator [] = []
-parts_words separator (x ∷ xs) = pattern_words x ++ flat_map (next_words separator) xs
-
-joined_words : (separator : List ℕ) (xs : List Pattern)
-    → joined separator (map pattern_words xs) ≡ parts_words separator xs
-unfolding next_words
-joined_words separator [] = refl
-joined_words separator (x ∷ xs) =
-    ap (λ ws. pattern_words x ++ ws)
-    (after_separators separator pattern_words (next_words separator) (λ y. refl) xs)
-
 pub pattern_words-name : (name : Ident) → pattern_words (part.Name name) ≡ name.text ∷ []
 unfolding pattern_words
 pattern_words-name name =
@@ -78,38 +63,31 @@ pattern_words-group token inner =
     ap pattern_words (sym (part.rolls-Group token inner)) ∙ fold-roll-Pattern Words pattern_layer (Group token inner)
 
 pub pattern_words-conjunction : (parts : List Pattern)
-    → pattern_words (part.Conjunction parts) ≡ parts_words (codes "&") parts
+    → pattern_words (part.Conjunction parts) ≡ separated_words (codes "&") pattern_words parts
 unfolding pattern_words
 pattern_words-conjunction parts =
     ap pattern_words (sym (part.rolls-Conjunction parts)) ∙ fold-roll-Pattern Words pattern_layer (Conjunction parts)
-    ∙ joined_words (codes "&") parts
+    ∙ joined_words (codes "&") pattern_words parts
 
 pub pattern_words-sequence : (parts : List Pattern)
-    → pattern_words (part.Sequence parts) ≡ parts_words (codes ";") parts
+    → pattern_words (part.Sequence parts) ≡ separated_words (codes ";") pattern_words parts
 unfolding pattern_words
 pattern_words-sequence parts =
     ap pattern_words (sym (part.rolls-Sequence parts)) ∙ fold-roll-Pattern Words pattern_layer (Sequence parts)
-    ∙ joined_words (codes ";") parts
+    ∙ joined_words (codes ";") pattern_words parts
 
 pub pattern_words-alternatives : (parts : List Pattern)
-    → pattern_words (part.Alternatives parts) ≡ parts_words (codes "|") parts
+    → pattern_words (part.Alternatives parts) ≡ separated_words (codes "|") pattern_words parts
 unfolding pattern_words
 pattern_words-alternatives parts =
     ap pattern_words (sym (part.rolls-Alternatives parts)) ∙ fold-roll-Pattern Words pattern_layer (Alternatives parts)
-    ∙ joined_words (codes "|") parts
+    ∙ joined_words (codes "|") pattern_words parts
 
 unfoldable pub field_words : Field → Words
 field_words f = f.name.text ∷ digits f.high ∷ codes ":" ∷ digits f.low ∷ []
 
-unfoldable pub comma_field_words : Field → Words
-comma_field_words f = codes "," ∷ field_words f
-
-abbrev pub some_fields_words : List Field → Words
-some_fields_words [] = []
-some_fields_words (x ∷ xs) = field_words x ++ flat_map comma_field_words xs
-
 abbrev pub fields_words : List Field → Words
-fields_words fields = codes "(" ∷ (some_fields_words fields ++ codes ")" ∷ [])
+fields_words fields = codes "(" ∷ (separated_words (codes ",") field_words fields ++ codes ")" ∷ [])
 
 abbrev pub reach_words : Option Reach → Words
 reach_words None = []
@@ -119,15 +97,8 @@ reach_words (Some (Absolute token bits)) = codes ":" ∷ codes "abs" ∷ digits 
 unfoldable pub param_words : Param → Words
 param_words p = p.name.text ∷ reach_words p.reach
 
-unfoldable pub comma_param_words : Param → Words
-comma_param_words p = codes "," ∷ param_words p
-
-abbrev pub some_params_words : List Param → Words
-some_params_words [] = []
-some_params_words (x ∷ xs) = param_words x ++ flat_map comma_param_words xs
-
 abbrev pub params_words : List Param → Words
-params_words params = codes "(" ∷ (some_params_words params ++ codes ")" ∷ [])
+params_words params = codes "(" ∷ (separated_words (codes ",") param_words params ++ codes ")" ∷ [])
 
 -- the words of an item, with those of a body after those of its head
 unfoldable pub item_words : Item → Words
@@ -166,7 +137,7 @@ conjunction_spells : Spells grammar.conjunction pattern_words
 unfolding grammar.conjunction grammar.atoms grammar.next_atom next_words
 conjunction_spells =
     spell.spelled as_text rule_words grammar.atom pattern_words atom_spells _ (λ x. (
-      next_words (codes "&"),
+      next_words (codes "&") pattern_words,
       (λ t. spell.spelled as_text rule_words grammar.atom pattern_words atom_spells _ (λ y. refl)),
       λ xs. sym (pattern_words-conjunction (x ∷ xs)),
     ))
@@ -175,7 +146,7 @@ sequence_spells : Spells grammar.sequence pattern_words
 unfolding grammar.sequence grammar.conjunctions grammar.next_conjunction next_words
 sequence_spells =
     spell.spelled as_text rule_words grammar.conjunction pattern_words conjunction_spells _ (λ x. (
-      next_words (codes ";"),
+      next_words (codes ";") pattern_words,
       (λ t. spell.spelled as_text rule_words grammar.conjunction pattern_words conjunction_spells _ (λ y. refl)),
       λ xs. sym (pattern_words-sequence (x ∷ xs)),
     ))
@@ -184,7 +155,7 @@ pattern_spells : Spells grammar.pattern pattern_words
 unfolding grammar.pattern grammar.sequences grammar.next_sequence next_words
 pattern_spells =
     spell.spelled as_text rule_words grammar.sequence pattern_words sequence_spells _ (λ x. (
-      next_words (codes "|"),
+      next_words (codes "|") pattern_words,
       (λ t. spell.spelled as_text rule_words grammar.sequence pattern_words sequence_spells _ (λ y. refl)),
       λ xs. sym (pattern_words-alternatives (x ∷ xs)),
     ))
@@ -194,9 +165,9 @@ unfolding grammar.field field_words
 field_spells = λ n h t l. refl
 
 fields_spells : Spells grammar.fields fields_words
-unfolding grammar.fields grammar.some_fields grammar.next_field comma_field_words
+unfolding grammar.fields next_words
 fields_spells = λ t. spell.spelled as_text rule_words grammar.field field_words field_spells _ (λ x. (
-  comma_field_words,
+  next_words (codes ",") field_words,
   (λ u. spell.spelled as_text rule_words grammar.field field_words field_spells _ (λ y. refl)),
   λ xs u. refl,
 ))
@@ -206,11 +177,11 @@ unfolding grammar.param grammar.reach_of grammar.reach param_words
 param_spells = λ n. ((λ t. ((λ u k. refl), (λ u k. refl))), refl)
 
 params_spells : Spells grammar.params params_words
-unfolding grammar.params grammar.some_params grammar.next_param comma_param_words
+unfolding grammar.params next_words
 params_spells = λ t. (
   (λ u. refl),
   spell.spelled as_text rule_words grammar.param param_words param_spells _ (λ x. (
-    comma_param_words,
+    next_words (codes ",") param_words,
     (λ u. spell.spelled as_text rule_words grammar.param param_words param_spells _ (λ y. refl)),
     λ xs u. refl,
   )),
@@ -232,7 +203,7 @@ coding_spells = λ t n. (item_words, item_spells, λ xs. refl)
 
 -- each text of a coding spells its words
 pub coding_texts : (tokens : List Lexeme) (raw : RawCoding)
-    → IsPhrase sled coding tokens raw → spell.spellings as_text tokens ≡ coding_words raw
+    → IsPhrase sled coding tokens raw → spellings as_text tokens ≡ coding_words raw
 coding_texts tokens raw phrase =
     spell.texts_spell as_text sled rule_words (elim [ any_pattern ↦ pattern_spells ])
     coding coding_words coding_spells tokens raw phrase

@@ -1,11 +1,12 @@
 -- The grammar of coding texts, rule by rule. Words in quotes are reserved, and no names.
 use Rattle.std.specs.Prelude.{ℕ, true, List, [], ◌∷◌, Option, codes, ◌≡◌, refl}
-use Rattle.qc_text.specs.declared.cursor.Ident.{Ident}
-use Rattle.qc_text.specs.Lexeme.{Class, Word, Lexeme}
-use Rattle.qc_text.specs.Grammar.{Grammar, nonterminal, empty, repetition, ◌<+>◌, ◌*>◌, ◌<*◌, ◌<|>◌, ◌<$>◌, word, name, number, optional, Syntax}
-use Rattle.qc_text.specs.Reading.{reads}
-use Rattle.qc_text.specs.Clean.{IsReadable, is_clean}
-use Rattle.qc_text.specs.Law.Fuel.{unroll}
+use Rattle.qc_grammar.specs.declared.cursor.Ident.{Ident}
+use Rattle.qc_grammar.specs.Lexeme.{Class, Word, Lexeme, Vocabulary, reserving}
+use Rattle.qc_grammar.specs.Grammar.{Grammar, nonterminal, empty, repetition, ◌<+>◌, ◌*>◌, ◌<*◌, ◌<|>◌, ◌<$>◌, word, name, number, optional, Syntax, separated}
+use Rattle.qc_grammar.specs.Reading.{reads}
+use Rattle.qc_grammar.specs.Law.LL1.{IsReadable, is_clean}
+use Rattle.qc_grammar.specs.Law.Lists.{Shortens, shortens_of}
+use Rattle.qc_grammar.specs.Law.Fuel.{unroll}
 use Rattle.qc_sled.specs.declared.syntax.Field.{Field}
 use Rattle.qc_sled.specs.declared.syntax.Reach.{Reach}
 use Rattle.qc_sled.specs.declared.syntax.Reach.TheVariants.{Relative, Absolute}
@@ -24,6 +25,10 @@ reserved =
     codes "coding" ∷ codes "fields" ∷ codes "pattern" ∷ codes "is" ∷ codes "constructor" ∷ codes "rel"
     ∷ codes "abs" ∷ []
 
+-- They and punctuation are the words of the grammar.
+abbrev pub vocabulary : Vocabulary
+vocabulary = reserving reserved
+
 -- the one rule that may come inside itself
 pub data Rule : Type 0 where
   any_pattern : Rule
@@ -35,17 +40,9 @@ TreeOf any_pattern = Pattern
 unfoldable pub field : Grammar Rule TreeOf Field
 field = (λ p. record { name = p.0; high = p.1.0; low = p.1.1 }) <$> name <+> number <* word (codes ":") <+> number
 
--- next_field = "," field
-unfoldable pub next_field : Grammar Rule TreeOf Field
-next_field = word (codes ",") *> field
-
--- some_fields = field { "," field }
-unfoldable pub some_fields : Grammar Rule TreeOf (List Field)
-some_fields = (λ p. p.0 ∷ p.1) <$> field <+> repetition next_field
-
--- fields = "(" some_fields ")"
+-- fields = "(" field { "," field } ")"
 unfoldable pub fields : Grammar Rule TreeOf (List Field)
-fields = word (codes "(") *> some_fields <* word (codes ")")
+fields = word (codes "(") *> separated field (codes ",") <* word (codes ")")
 
 -- reach = "rel" number | "abs" number
 unfoldable pub reach : Grammar Rule TreeOf Reach
@@ -61,17 +58,9 @@ reach_of = optional (word (codes ":") *> reach)
 unfoldable pub param : Grammar Rule TreeOf Param
 param = (λ p. record { name = p.0; reach = p.1 }) <$> name <+> reach_of
 
--- next_param = "," param
-unfoldable pub next_param : Grammar Rule TreeOf Param
-next_param = word (codes ",") *> param
-
--- some_params = param { "," param }
-unfoldable pub some_params : Grammar Rule TreeOf (List Param)
-some_params = (λ p. p.0 ∷ p.1) <$> param <+> repetition next_param
-
--- params = "(" [ some_params ] ")"
+-- params = "(" [ param { "," param } ] ")"
 unfoldable pub params : Grammar Rule TreeOf (List Param)
-params = word (codes "(") *> ((λ _. []) <$> word (codes ")") <|> some_params <* word (codes ")"))
+params = word (codes "(") *> ((λ _. []) <$> word (codes ")") <|> separated param (codes ",") <* word (codes ")"))
 
 -- bits = [ "{" number ".." number "}" ], after an operand's name
 unfoldable pub bits : Grammar Rule TreeOf (Ident → Value)
@@ -159,7 +148,7 @@ abbrev pub sled : Syntax Rule TreeOf
 sled = record { rule = rule; goes_on = goes_on }
 
 pub sled_is_readable : IsReadable sled coding
-unfolding field next_field some_fields fields reach reach_of param next_param some_params params bits value
+unfolding field fields reach reach_of param params bits value
     after_atom atom next_atom atoms conjunction next_conjunction conjunctions sequence next_sequence sequences pattern
     item items coding
 sled_is_readable = record { rules = record { depth = 1; rules = elim [ any_pattern ↦ refl ] }; start = refl }
@@ -169,13 +158,13 @@ pub pattern_unrolls : (tokens : List Lexeme) → reads sled (nonterminal any_pat
 pattern_unrolls = unroll sled sled_is_readable.rules any_pattern
 
 -- what the loops repeat can be repeated
-pub next_field_repeats : is_clean sled (repetition next_field) ≡ true
-unfolding field next_field
-next_field_repeats = refl
+pub field_shortens : Shortens (reads sled field)
+unfolding field
+field_shortens = shortens_of sled sled_is_readable.rules field refl refl
 
-pub next_param_repeats : is_clean sled (repetition next_param) ≡ true
-unfolding reach reach_of param next_param
-next_param_repeats = refl
+pub param_shortens : Shortens (reads sled param)
+unfolding reach reach_of param
+param_shortens = shortens_of sled sled_is_readable.rules param refl refl
 
 pub next_atom_repeats : is_clean sled (repetition next_atom) ≡ true
 unfolding bits value after_atom atom next_atom
@@ -190,6 +179,6 @@ unfolding bits value after_atom atom next_atom atoms conjunction next_conjunctio
     next_sequence
 next_sequence_repeats = refl
 
-pub item_repeats : is_clean sled (repetition item) ≡ true
-unfolding field next_field some_fields fields reach reach_of param next_param some_params params item
-item_repeats = refl
+pub item_shortens : Shortens (reads sled item)
+unfolding field fields reach reach_of param params item
+item_shortens = shortens_of sled sled_is_readable.rules item refl refl

@@ -1,11 +1,12 @@
 //! The reader of the fields of a token.
 ghost use Rattle.std.specs.Prelude.{◌≡◌};
-ghost use Rattle.qc_text.specs.Gives.{Gives};
-ghost use Rattle.qc_text.specs.Reading.{reads};
-ghost use Rattle.qc_sled.specs.Sled.{sled, field, next_field, some_fields, fields};
+ghost use Rattle.qc_grammar.specs.ReaderResult.{Gives};
+ghost use Rattle.qc_grammar.specs.Reading.{reads};
+ghost use Rattle.qc_sled.specs.Sled.{sled, field, fields};
 
 use crate::syntax::Field;
-use qc_text::{Cursor, Kind, Stop};
+use qc_grammar::{Cursor, Phrase, Stop, read_separated};
+use qc_text::Kind;
 use sqlite_items::Items;
 use std::alloc::Global;
 
@@ -20,27 +21,17 @@ fn read_field(alloc: Global, cursor: &mut Cursor<'_>) -> Result<Field, Stop>
     Ok(Field { name, high, low })
 }
 
-#[tactic(auto, unfolding(crate::specs::Sled::next_field))]
-fn read_next_field(alloc: Global, cursor: &mut Cursor<'_>) -> Result<Field, Stop>
-    ensures { Gives result cursor.old cursor.new (reads sled next_field) }
-{
-    cursor.word(b",")?;
-    read_field(alloc, cursor)
-}
+impl Phrase for Field {
+    ghost use Rattle.qc_grammar.specs.Reading.{reads};
+    ghost use Rattle.qc_sled.specs.Sled.{sled, field, field_shortens};
 
-#[tactic(auto, unfolding(crate::specs::Sled::some_fields))]
-fn read_some_fields(alloc: Global, cursor: &mut Cursor<'_>) -> Result<Items<Field>, Stop>
-    ensures { Gives result cursor.old cursor.new (reads sled some_fields) }
-{
-    let mut fields = Items::new(alloc);
-    fields.push(read_field(alloc, cursor)?)?;
-    while cursor.is_word(b",") {
-        match read_next_field(alloc, cursor) {
-            Ok(field) => fields.push(field)?,
-            Err(stop) => return Err(stop),
-        }
+    ghost reading = { reads sled field };
+
+    ghost shortens = { field_shortens };
+
+    fn read(alloc: Global, cursor: &mut Cursor<'_>) -> Result<Field, Stop> {
+        read_field(alloc, cursor)
     }
-    Ok(fields)
 }
 
 #[tactic(auto, unfolding(crate::specs::Sled::fields))]
@@ -48,7 +39,7 @@ pub(crate) fn read_fields(alloc: Global, cursor: &mut Cursor<'_>) -> Result<Item
     ensures { Gives result cursor.old cursor.new (reads sled fields) }
 {
     cursor.word(b"(")?;
-    let fields = read_some_fields(alloc, cursor)?;
+    let fields = read_separated::<Field>(alloc, cursor, b",")?;
     cursor.word(b")")?;
     Ok(fields)
 }

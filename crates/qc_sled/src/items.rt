@@ -1,15 +1,16 @@
 //! The reader of items.
 ghost use Rattle.std.specs.Prelude.{◌≡◌};
-ghost use Rattle.qc_text.specs.Gives.{Gives};
-ghost use Rattle.qc_text.specs.Reading.{reads, first, next_in};
-ghost use Rattle.qc_text.specs.Grammar.{nonterminal};
+ghost use Rattle.qc_grammar.specs.ReaderResult.{Gives};
+ghost use Rattle.qc_grammar.specs.Reading.{reads, first, next_in};
+ghost use Rattle.qc_grammar.specs.Grammar.{nonterminal};
 ghost use Rattle.qc_sled.specs.Sled.{sled, item, items};
 
 use crate::fields::read_fields;
 use crate::params::read_params;
 use crate::patterns::read_any_pattern;
 use crate::syntax::Item;
-use qc_text::{Cursor, Kind, Stop};
+use qc_grammar::{Beginning, Cursor, Phrase, Stop, read_many};
+use qc_text::Kind;
 use sqlite_items::Items;
 use std::alloc::Global;
 
@@ -56,16 +57,33 @@ fn read_item(alloc: Global, cursor: &mut Cursor<'_>) -> Result<Item, Stop>
     }
 }
 
+impl Phrase for Item {
+    ghost use Rattle.qc_grammar.specs.Reading.{reads};
+    ghost use Rattle.qc_sled.specs.Sled.{sled, item, item_shortens};
+
+    ghost reading = { reads sled item };
+
+    ghost shortens = { item_shortens };
+
+    fn read(alloc: Global, cursor: &mut Cursor<'_>) -> Result<Item, Stop> {
+        read_item(alloc, cursor)
+    }
+}
+
+impl Beginning for Item {
+    ghost use Rattle.qc_grammar.specs.Reading.{first};
+    ghost use Rattle.qc_sled.specs.Sled.{sled, item};
+
+    ghost classes = { first sled item };
+
+    fn begins(cursor: &Cursor<'_>) -> bool {
+        begins_item(cursor)
+    }
+}
+
 #[tactic(auto, unfolding(crate::specs::Sled::items))]
 pub(crate) fn read_items(alloc: Global, cursor: &mut Cursor<'_>) -> Result<Items<Item>, Stop>
     ensures { Gives result cursor.old cursor.new (reads sled items) }
 {
-    let mut items = Items::new(alloc);
-    while begins_item(cursor) {
-        match read_item(alloc, cursor) {
-            Ok(item) => items.push(item)?,
-            Err(stop) => return Err(stop),
-        }
-    }
-    Ok(items)
+    read_many::<Item>(alloc, cursor)
 }

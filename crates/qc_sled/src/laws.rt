@@ -1,7 +1,7 @@
 //! A fact about all trees. A caller of the function has its `ensures`; no code runs.
 ghost use Rattle.std.specs.Prelude.{◌≡◌};
-ghost use Rattle.qc_text.specs.Spelled.{AreSameTrees};
-ghost use Rattle.qc_text.specs.Printing.{as_text};
+ghost use Rattle.qc_grammar.specs.Spelled.{AreSameTrees};
+ghost use Rattle.qc_grammar.specs.Printing.{as_text};
 ghost use Rattle.qc_sled.specs.declared.syntax.RawCoding.{RawCoding};
 ghost use Rattle.qc_sled.specs.Sled.{sled, coding};
 ghost use Rattle.qc_sled.specs.Printed.{coding_words};

@@ -14,6 +14,3 @@ pub use laws::same_trees_have_the_same_words;
 pub use reader::read_sled;
 pub use syntax::{Field, Item, Param, Pattern, RawCoding, Reach, Value};
 pub use writer::write_sled;
-
-#[cfg(test)]
-mod tests;

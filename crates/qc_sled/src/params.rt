@@ -1,11 +1,12 @@
 //! The reader of the parameters of a constructor.
 ghost use Rattle.std.specs.Prelude.{◌≡◌};
-ghost use Rattle.qc_text.specs.Gives.{Gives};
-ghost use Rattle.qc_text.specs.Reading.{reads};
-ghost use Rattle.qc_sled.specs.Sled.{sled, reach, reach_of, param, next_param, some_params, params};
+ghost use Rattle.qc_grammar.specs.ReaderResult.{Gives};
+ghost use Rattle.qc_grammar.specs.Reading.{reads};
+ghost use Rattle.qc_sled.specs.Sled.{sled, reach, reach_of, param, params};
 
 use crate::syntax::{Param, Reach};
-use qc_text::{Cursor, Kind, Stop};
+use qc_grammar::{Cursor, Phrase, Stop, read_separated};
+use qc_text::Kind;
 use sqlite_items::Items;
 use std::alloc::Global;
 
@@ -46,27 +47,17 @@ fn read_param(alloc: Global, cursor: &mut Cursor<'_>) -> Result<Param, Stop>
     Ok(Param { name, reach })
 }
 
-#[tactic(auto, unfolding(crate::specs::Sled::next_param))]
-fn read_next_param(alloc: Global, cursor: &mut Cursor<'_>) -> Result<Param, Stop>
-    ensures { Gives result cursor.old cursor.new (reads sled next_param) }
-{
-    cursor.word(b",")?;
-    read_param(alloc, cursor)
-}
+impl Phrase for Param {
+    ghost use Rattle.qc_grammar.specs.Reading.{reads};
+    ghost use Rattle.qc_sled.specs.Sled.{sled, param, param_shortens};
 
-#[tactic(auto, unfolding(crate::specs::Sled::some_params))]
-fn read_some_params(alloc: Global, cursor: &mut Cursor<'_>) -> Result<Items<Param>, Stop>
-    ensures { Gives result cursor.old cursor.new (reads sled some_params) }
-{
-    let mut params = Items::new(alloc);
-    params.push(read_param(alloc, cursor)?)?;
-    while cursor.is_word(b",") {
-        match read_next_param(alloc, cursor) {
-            Ok(param) => params.push(param)?,
-            Err(stop) => return Err(stop),
-        }
+    ghost reading = { reads sled param };
+
+    ghost shortens = { param_shortens };
+
+    fn read(alloc: Global, cursor: &mut Cursor<'_>) -> Result<Param, Stop> {
+        read_param(alloc, cursor)
     }
-    Ok(params)
 }
 
 #[tactic(auto, unfolding(crate::specs::Sled::params))]
@@ -78,7 +69,7 @@ pub(crate) fn read_params(alloc: Global, cursor: &mut Cursor<'_>) -> Result<Item
         cursor.word(b")")?;
         Ok(Items::new(alloc))
     } else {
-        let params = read_some_params(alloc, cursor)?;
+        let params = read_separated::<Param>(alloc, cursor, b",")?;
         cursor.word(b")")?;
         Ok(params)
     }

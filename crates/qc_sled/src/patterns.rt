@@ -1,14 +1,15 @@
 //! The reader of patterns.
 ghost use Rattle.std.specs.Prelude.{◌≡◌, ◌∷◌, [], IfOk};
-ghost use Rattle.qc_text.specs.Gives.{Gives};
-ghost use Rattle.qc_text.specs.Reading.{reads};
-ghost use Rattle.qc_text.specs.Grammar.{nonterminal, onto};
+ghost use Rattle.qc_grammar.specs.ReaderResult.{Gives};
+ghost use Rattle.qc_grammar.specs.Reading.{reads};
+ghost use Rattle.qc_grammar.specs.Grammar.{nonterminal, onto};
 ghost use Rattle.qc_sled.specs.Sled.{sled, any_pattern, bits, value, after_atom, atom, next_atom, atoms};
 ghost use Rattle.qc_sled.specs.Sled.{conjunction, next_conjunction, conjunctions};
 ghost use Rattle.qc_sled.specs.Sled.{sequence, next_sequence, sequences, pattern};
 
 use crate::syntax::{Pattern, Value};
-use qc_text::{Cursor, Ident, Kind, Stop};
+use qc_grammar::{Cursor, Ident, Stop};
+use qc_text::Kind;
 use sqlite_items::{Boxed, Items};
 use std::alloc::{AllocError, Global};
 

@@ -1,17 +1,21 @@
 //! The reader of whole texts.
 ghost use Rattle.std.specs.Prelude.{◌≡◌, length};
-ghost use Rattle.qc_text.specs.Inside.{InSource, IsEnded};
-ghost use Rattle.qc_text.specs.Lexeme.{lexemes};
-ghost use Rattle.qc_text.specs.Gives.{Gives};
-ghost use Rattle.qc_text.specs.Reading.{reads};
-ghost use Rattle.qc_text.specs.Clean.{text};
-ghost use Rattle.qc_text.specs.Answer.{Answers};
-ghost use Rattle.qc_text.specs.TextAnswer.{AnswersText};
-ghost use Rattle.qc_sled.specs.Sled.{sled, reserved, coding};
+ghost use Rattle.qc_grammar.specs.TokenSpans.{InSource, IsEnded};
+ghost use Rattle.qc_grammar.specs.Lexeme.{lexemes_from};
+ghost use Rattle.qc_grammar.specs.ReaderResult.{Gives};
+ghost use Rattle.qc_grammar.specs.Reading.{reads};
+ghost use Rattle.qc_grammar.specs.Grammar.{text};
+ghost use Rattle.qc_grammar.specs.Answer.{Answers};
+ghost use Rattle.qc_grammar.specs.TextAnswer.{AnswersText};
+ghost use Rattle.qc_sled.specs.Sled.{sled, vocabulary, coding};
 
 use crate::items::read_items;
 use crate::syntax::RawCoding;
-use qc_text::{Cursor, Kind, ReadError, ReadTextEnd, Stop, Token, answer, begin, scan, settle};
+use qc_grammar::{
+    ClassedToken, Cursor, ReadError, ReadTextEnd, Stop, Vocabulary, answer, begin, is_reserved,
+    scan, settle,
+};
+use qc_text::{Kind, Token};
 use std::alloc::Global;
 
 const RESERVED: [&[u8]; 7] = [
@@ -23,6 +27,19 @@ const RESERVED: [&[u8]; 7] = [
     b"rel",
     b"abs",
 ];
+
+/// Which tokens are words of coding texts.
+struct SledWords;
+
+impl Vocabulary for SledWords {
+    ghost use Rattle.qc_sled.specs.Sled.{vocabulary as words};
+
+    ghost vocabulary = { words };
+
+    fn is_word(_source: &[u8], _before: &[Token], kind: Kind, text: &[u8]) -> bool {
+        is_reserved(&RESERVED, kind, text)
+    }
+}
 
 #[tactic(auto, unfolding(crate::specs::Sled::coding))]
 fn read_coding(alloc: Global, cursor: &mut Cursor<'_>) -> Result<RawCoding, Stop>
@@ -43,12 +60,16 @@ fn read_whole(alloc: Global, cursor: &mut Cursor<'_>) -> Result<RawCoding, Stop>
 }
 
 /// The tree that the tokens of a source spell.
-fn read_tokens(alloc: Global, source: &[u8], tokens: &[Token]) -> Result<RawCoding, ReadError>
+fn read_tokens(
+    alloc: Global,
+    source: &[u8],
+    tokens: &[ClassedToken],
+) -> Result<RawCoding, ReadError>
     requires inside { InSource (length source.now) tokens.now }
     requires ended { IsEnded tokens.now }
-    ensures { Answers sled coding (lexemes reserved source.now tokens.now) result }
+    ensures { Answers sled coding (lexemes_from source.now 0 tokens.now) result }
 {
-    let (mut cursor, deep) = begin(source, &RESERVED, tokens);
+    let (mut cursor, deep) = begin(source, tokens);
     let given = cursor.left();
     let read = read_whole(alloc, &mut cursor);
     settle(read, deep, given, cursor.left())
@@ -56,9 +77,9 @@ fn read_tokens(alloc: Global, source: &[u8], tokens: &[Token]) -> Result<RawCodi
 
 /// The tree of a coding's text.
 pub fn read_sled(alloc: Global, bytes: &[u8]) -> Result<RawCoding, ReadTextEnd>
-    ensures { AnswersText sled coding reserved bytes.now result }
+    ensures { AnswersText sled coding vocabulary bytes.now result }
 {
-    match scan(alloc, bytes) {
+    match scan::<SledWords>(alloc, bytes) {
         Ok(tokens) => answer(read_tokens(alloc, bytes, tokens.as_slice())),
         Err(end) => Err(end),
     }

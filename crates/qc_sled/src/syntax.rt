@@ -1,6 +1,6 @@
 //! The syntax tree of the text of a coding. A node keeps the number of its first token: its own `token`, or that
 //! of the name or the number that it begins with.
-use qc_text::{Ident, Number};
+use qc_grammar::{Ident, Number};
 use sqlite_items::{Boxed, Items};
 
 /// The text of a coding.

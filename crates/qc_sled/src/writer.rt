@@ -1,22 +1,21 @@
 //! The printer: each word of a tree, and a blank after it.
 ghost use Rattle.std.specs.Prelude.{◌≡◌, ◌++◌, ◌<◌, length, drop, ℕ, List, Ok, OnOk, IfOk};
 ghost use Rattle.std.specs.List.{flat_map};
-ghost use Rattle.qc_text.specs.Lexeme.{Lexeme};
-ghost use Rattle.qc_text.specs.Language.{IsPhrase};
-ghost use Rattle.qc_text.specs.TextAnswer.{IsTextAnswer};
-ghost use Rattle.qc_text.specs.Spaced.{spaced};
-ghost use Rattle.qc_text.specs.Spelled.{spellings};
-ghost use Rattle.qc_text.specs.Printing.{as_text, IsTextOf};
-ghost use Rattle.qc_sled.specs.Sled.{sled, coding, reserved};
-ghost use Rattle.qc_sled.specs.Printed.{value_words, pattern_words, next_words, parts_words};
-ghost use Rattle.qc_sled.specs.Printed.{field_words, comma_field_words, some_fields_words, fields_words};
-ghost use Rattle.qc_sled.specs.Printed.{reach_words, param_words, comma_param_words, some_params_words, params_words};
-ghost use Rattle.qc_sled.specs.Printed.{item_words, coding_words};
+ghost use Rattle.qc_grammar.specs.Lexeme.{Lexeme};
+ghost use Rattle.qc_grammar.specs.Language.{IsPhrase};
+ghost use Rattle.qc_grammar.specs.TextAnswer.{IsTextAnswer};
+ghost use Rattle.qc_text.specs.PrintedWords.{spaced};
+ghost use Rattle.qc_grammar.specs.Spelled.{spellings};
+ghost use Rattle.qc_grammar.specs.Printing.{as_text, next_words, separated_words, IsTextOf, IsTreeOf};
+ghost use Rattle.qc_sled.specs.Sled.{sled, coding, vocabulary};
+ghost use Rattle.qc_sled.specs.Printed.{value_words, pattern_words, field_words, fields_words};
+ghost use Rattle.qc_sled.specs.Printed.{reach_words, param_words, params_words, item_words, coding_words};
 
 use crate::syntax::{Field, Item, Param, Pattern, RawCoding, Reach, Value};
-use qc_text::{
-    one_end, printed_tokens_are_tokens, put, put_number, texts_of_their_kinds, words_are_tokens,
+use qc_grammar::{
+    Printed, printed_tokens_are_tokens, put, put_number, write_many, write_separated,
 };
+use qc_text::{one_end, texts_of_their_kinds, words_are_tokens};
 use std::alloc::{AllocError, Global};
 
 #[tactic(auto, unfolding(crate::specs::Printed::value_words), using(crate::proofs::Writing::writing))]
@@ -69,7 +68,7 @@ fn write_parts(
     separator: &[u8],
     parts: &[Pattern],
 ) -> Result<(), AllocError>
-    ensures { OnOk result (out.new.items ≡ out.old.items ++ spaced (parts_words separator.now parts.now)) }
+    ensures { OnOk result (out.new.items ≡ out.old.items ++ spaced (separated_words separator.now pattern_words parts.now)) }
 {
     if parts.is_empty() {
         return Ok(());
@@ -79,7 +78,7 @@ fn write_parts(
 }
 
 /// The patterns after the first, each with the separator before it.
-#[tactic(auto, unfolding(crate::specs::Printed::next_words), using(crate::proofs::Writing::writing))]
+#[tactic(auto, unfolding(qc_grammar::specs::Printing::next_words), using(crate::proofs::Writing::writing))]
 #[cycle(patterns)]
 fn write_more_parts(
     alloc: Global,
@@ -89,7 +88,7 @@ fn write_more_parts(
 ) -> Result<(), AllocError>
     requires { 0 < length parts.now }
     ensures { OnOk result
-        (out.new.items ≡ out.old.items ++ spaced (flat_map (next_words separator.now) (drop 1 parts.now))) }
+        (out.new.items ≡ out.old.items ++ spaced (flat_map (next_words separator.now pattern_words) (drop 1 parts.now))) }
 {
     for place in 1..parts.len() {
         put(out, separator)?;
@@ -108,28 +107,14 @@ fn write_field(alloc: Global, out: &mut Vec<u8>, field: &Field) -> Result<(), Al
     put_number(alloc, out, &field.low)
 }
 
-/// The fields after the first, each with a comma before it.
-#[tactic(auto, unfolding(crate::specs::Printed::comma_field_words), using(crate::proofs::Writing::writing))]
-fn write_more_fields(alloc: Global, out: &mut Vec<u8>, fields: &[Field]) -> Result<(), AllocError>
-    requires { 0 < length fields.now }
-    ensures { OnOk result (out.new.items ≡ out.old.items ++ spaced (flat_map comma_field_words (drop 1 fields.now))) }
-{
-    for place in 1..fields.len() {
-        put(out, b",")?;
-        write_field(alloc, out, &fields[place])?;
-    }
-    Ok(())
-}
+impl Printed for Field {
+    ghost use Rattle.qc_sled.specs.Printed.{field_words};
 
-#[tactic(auto, using(crate::proofs::Writing::writing))]
-fn write_some_fields(alloc: Global, out: &mut Vec<u8>, fields: &[Field]) -> Result<(), AllocError>
-    ensures { OnOk result (out.new.items ≡ out.old.items ++ spaced (some_fields_words fields.now)) }
-{
-    if fields.is_empty() {
-        return Ok(());
+    ghost words = { field_words };
+
+    fn write(&self, alloc: Global, out: &mut Vec<u8>) -> Result<(), AllocError> {
+        write_field(alloc, out, self)
     }
-    write_field(alloc, out, &fields[0])?;
-    write_more_fields(alloc, out, fields)
 }
 
 #[tactic(auto, using(crate::proofs::Writing::writing))]
@@ -137,7 +122,7 @@ fn write_fields(alloc: Global, out: &mut Vec<u8>, fields: &[Field]) -> Result<()
     ensures { OnOk result (out.new.items ≡ out.old.items ++ spaced (fields_words fields.now)) }
 {
     put(out, b"(")?;
-    write_some_fields(alloc, out, fields)?;
+    write_separated(alloc, out, b",", fields)?;
     put(out, b")")
 }
 
@@ -168,28 +153,14 @@ fn write_param(alloc: Global, out: &mut Vec<u8>, param: &Param) -> Result<(), Al
     write_reach(alloc, out, &param.reach)
 }
 
-/// The parameters after the first, each with a comma before it.
-#[tactic(auto, unfolding(crate::specs::Printed::comma_param_words), using(crate::proofs::Writing::writing))]
-fn write_more_params(alloc: Global, out: &mut Vec<u8>, params: &[Param]) -> Result<(), AllocError>
-    requires { 0 < length params.now }
-    ensures { OnOk result (out.new.items ≡ out.old.items ++ spaced (flat_map comma_param_words (drop 1 params.now))) }
-{
-    for place in 1..params.len() {
-        put(out, b",")?;
-        write_param(alloc, out, &params[place])?;
-    }
-    Ok(())
-}
+impl Printed for Param {
+    ghost use Rattle.qc_sled.specs.Printed.{param_words};
 
-#[tactic(auto, using(crate::proofs::Writing::writing))]
-fn write_some_params(alloc: Global, out: &mut Vec<u8>, params: &[Param]) -> Result<(), AllocError>
-    ensures { OnOk result (out.new.items ≡ out.old.items ++ spaced (some_params_words params.now)) }
-{
-    if params.is_empty() {
-        return Ok(());
+    ghost words = { param_words };
+
+    fn write(&self, alloc: Global, out: &mut Vec<u8>) -> Result<(), AllocError> {
+        write_param(alloc, out, self)
     }
-    write_param(alloc, out, &params[0])?;
-    write_more_params(alloc, out, params)
 }
 
 #[tactic(auto, using(crate::proofs::Writing::writing))]
@@ -197,7 +168,7 @@ fn write_params(alloc: Global, out: &mut Vec<u8>, params: &[Param]) -> Result<()
     ensures { OnOk result (out.new.items ≡ out.old.items ++ spaced (params_words params.now)) }
 {
     put(out, b"(")?;
-    write_some_params(alloc, out, params)?;
+    write_separated(alloc, out, b",", params)?;
     put(out, b")")
 }
 
@@ -242,14 +213,14 @@ fn write_item(alloc: Global, out: &mut Vec<u8>, item: &Item) -> Result<(), Alloc
     }
 }
 
-#[tactic(auto, using(crate::proofs::Writing::writing))]
-fn write_items(alloc: Global, out: &mut Vec<u8>, items: &[Item]) -> Result<(), AllocError>
-    ensures { OnOk result (out.new.items ≡ out.old.items ++ spaced (flat_map item_words items.now)) }
-{
-    for item in items {
-        write_item(alloc, out, item)?;
+impl Printed for Item {
+    ghost use Rattle.qc_sled.specs.Printed.{item_words};
+
+    ghost words = { item_words };
+
+    fn write(&self, alloc: Global, out: &mut Vec<u8>) -> Result<(), AllocError> {
+        write_item(alloc, out, self)
     }
-    Ok(())
 }
 
 #[tactic(auto, using(crate::proofs::Writing::writing))]
@@ -258,17 +229,19 @@ fn write_coding(alloc: Global, out: &mut Vec<u8>, raw: &RawCoding) -> Result<(),
 {
     put(out, b"coding")?;
     put(out, raw.name.text.as_slice())?;
-    write_items(alloc, out, raw.items.as_slice())
+    write_many(alloc, out, raw.items.as_slice())
 }
 
-/// A text of the tree: the words of each text that has this tree, numbers in decimal, with a blank after each. Where a
-/// file has this tree, the text is read again as the same tree but for the numbers of tokens.
+/// A text of the tree: the words of each text that has this tree, numbers in decimal, with a blank after each. Where it
+/// is a tree of the grammar, as that of a file is, the text is read again as the same tree but for the numbers of tokens.
 pub fn write_sled(alloc: Global, raw: &RawCoding) -> Result<Vec<u8>, AllocError>
     ensures words { IfOk result (λ out. (tokens : List Lexeme) → IsPhrase sled coding tokens raw.now
         → out.items ≡ spaced (spellings as_text tokens)) }
-    ensures again { IfOk result (λ out. (bytes : List ℕ)
-        → IsTextAnswer sled coding reserved bytes (Ok raw.now)
-        → IsTextOf as_text sled coding reserved raw.now out.items) }
+    ensures again { IfOk result (λ out. IsTreeOf sled coding vocabulary raw.now
+        → IsTextOf as_text sled coding vocabulary raw.now out.items) }
+    ensures file_again { IfOk result (λ out. (bytes : List ℕ)
+        → IsTextAnswer sled coding vocabulary bytes (Ok raw.now)
+        → IsTextOf as_text sled coding vocabulary raw.now out.items) }
 {
     words_are_tokens();
     texts_of_their_kinds();

@@ -1,9 +1,11 @@
 pub mod Cells
 pub mod Clashes
 pub mod Effects
+pub mod Law
+pub mod Inner
 pub mod Memory
 pub mod Observation
-pub mod Pending
+pub mod Process
 pub mod State
 pub mod Tree
 pub mod Typing

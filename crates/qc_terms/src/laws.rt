@@ -1,6 +1,6 @@
 //! Laws of terms and of memory. Each function here does nothing: its contract is the law.
 
-ghost use Rattle.std.specs.Prelude.{ℕ, ◌≡◌, ◌+◌, ◌≤◌, ◌%◌, ◌^◌, List, [], length, None, Some};
+ghost use Rattle.std.specs.Prelude.{ℕ, ◌≡◌, ◌+◌, ◌<◌, ◌≤◌, ◌%◌, ◌^◌, List, [], length, IfSome, IsTrue, None, Some};
 ghost use Rattle.qc_terms.specs.declared.state.Order.{Order};
 ghost use Rattle.qc_terms.specs.declared.state.State.{State};
 ghost use Rattle.qc_terms.specs.declared.term.Rtl.{Rtl};
@@ -8,13 +8,23 @@ ghost use Rattle.qc_terms.specs.Clashes.{clashes_of};
 ghost use Rattle.qc_terms.specs.Effects.{outcome_of};
 ghost use Rattle.qc_terms.specs.Memory.{load_of, store_of};
 ghost use Rattle.qc_terms.specs.Observation.{ending_of};
-ghost use Rattle.qc_terms.specs.State.{Context};
-ghost use Rattle.qc_terms.specs.Tree.{Tree};
-ghost use Rattle.qc_terms.specs.Typing.{HasOneEvent, IsTyped};
+ghost use Rattle.qc_terms.specs.State.{Context, IsState, context_of};
+ghost use Rattle.qc_terms.specs.Tree.{Tree, has_input, width_of};
+ghost use Rattle.qc_terms.specs.Typing.{HasOneEvent, IsTyped, OperandsFit};
+ghost use Rattle.qc_terms.specs.Value.{value_of};
 
 /// A typed term has no clash of widths.
 pub fn typed_terms_have_no_clash()
     ensures { (context : Context) (t : Tree) → IsTyped context t → clashes_of t ≡ [] }
+{}
+
+/// The value of a typed term, where it has one, is a word of the term's width: in a state that keeps its rule, with
+/// operands that fit and a word after the instruction, and where a word of the input is left if the term reads one.
+pub fn typed_values_are_words()
+    ensures { (s : State) (operands : List ℕ) (after : ℕ) → IsState s → after < 2 ^ s.facts.word → (t : Tree) →
+        IsTyped (context_of s) t → OperandsFit (context_of s) operands t →
+        (IsTrue (has_input t) → s.taken < length s.input) →
+        IfSome (value_of t operands after s) (λ v. v < 2 ^ width_of t) }
 {}
 
 /// A word that is stored is loaded again, as far as it fits its bytes.

@@ -19,10 +19,9 @@ pub use apply::apply_rtl;
 pub use cells::Cells;
 pub use evaluate::value;
 pub use image::Image;
-pub use laws::{events_tell_endings, stored_words_are_loaded, typed_terms_have_no_clash};
+pub use laws::{
+    events_tell_endings, stored_words_are_loaded, typed_terms_have_no_clash, typed_values_are_words,
+};
 pub use state::{Event, Facts, Order, State};
 pub use term::{Dest, Effect, Place, Rtl, Term};
 pub use typing::{WidthClash, width_of};
-
-#[cfg(test)]
-mod tests;

@@ -2,7 +2,7 @@ ghost use Rattle.std.specs.Prelude.{ℕ, ◌≡◌, ◌<◌, ◌≤◌, ◌^◌,
 ghost use Rattle.std.specs.List.{list_any};
 ghost use Rattle.std.specs.Option.{option_map};
 ghost use Rattle.qc_terms.specs.Effects.{after_writes, dest_has_input, effect_has_input, event_of, guard_has_input, guard_of, store_at, write_of, writes_of, writes_of_effect};
-ghost use Rattle.qc_terms.specs.Pending.{IsPendingWrite, writes_of_all, writes_of_pending};
+ghost use Rattle.qc_terms.specs.Inner.Pending.{IsPendingWrite, writes_of_all, writes_of_pending};
 ghost use Rattle.qc_terms.specs.State.{Context, IsState, context_of};
 ghost use Rattle.qc_terms.specs.Tree.{has_input, tree_of, width_of};
 ghost use Rattle.qc_terms.specs.Typing.{DestFits, EffectFits, IsTyped, IsTypedEffect, OperandsFit, TakesWidth};

@@ -2,7 +2,7 @@ use qc_words::{Op, Width};
 use sqlite_items::{Boxed, Items};
 
 /// A cell of a space: one that is named by its number, or one that an operand of the instruction names.
-#[derive(Clone, Copy, Debug, PartialEq, Eq)]
+#[derive(Clone, Copy, Debug, PartialEq, Eq, Hash)]
 pub enum Place {
     Cell { space: u32, index: u64 },
     Operand { space: u32, number: u32 },

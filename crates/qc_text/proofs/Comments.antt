@@ -8,7 +8,7 @@ use Rattle.std.specs.List.{list_all, prefix_len}
 use Rattle.std.specs.Prelude.{Option, None, Some}
 use Rattle.qc_text.specs.declared.token.Kind.{Kind}
 use Rattle.qc_text.specs.declared.token.Kind.TheVariants.{Punct}
-use Rattle.qc_text.specs.Scanning.{IsFront}
+use Rattle.qc_text.specs.Inner.Scanning.{IsFront}
 use Rattle.qc_text.specs.Tokens.{IsComment, Contains}
 use Rattle.qc_text.proofs.Runs.{run_passes}
 use Rattle.qc_text.proofs.Shapes.{slashes, Shape, a_slash, a_comment, sort_slash}

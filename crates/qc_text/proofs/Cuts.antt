@@ -5,7 +5,7 @@ use Rattle.qc_text.specs.declared.token.Kind.{Kind}
 use Rattle.qc_text.specs.declared.token.Kind.TheVariants.{Name, Prim, Number, Str, Punct}
 use Rattle.qc_text.specs.declared.token.Token.{Token}
 use Rattle.qc_text.specs.Pieces.{Piece, IsFirst, IsPieceText, AreCut, place_after, tokens_of, AreTokens, IsBadByte}
-use Rattle.qc_text.specs.Scanning.{IsFront}
+use Rattle.qc_text.specs.Inner.Scanning.{IsFront}
 use Rattle.qc_text.specs.Tokens.{IsComment}
 use Rattle.qc_text.proofs.Shapes.{Sort, names, numbers, prims, strings, slashes, blanks, marks, others, sort_of, Shape, a_name, a_number, a_prim, a_string, a_slash, a_comment, a_blank, a_mark, a_pair, shape}
 

@@ -10,7 +10,7 @@ use Rattle.std.specs.Prelude.{Option, None, Some, codes}
 use Rattle.qc_text.specs.declared.piece.Front.{Front}
 use Rattle.qc_text.specs.declared.token.Kind.{Kind}
 use Rattle.qc_text.specs.declared.token.Kind.TheVariants.{Name, Prim, Number, Str, Punct}
-use Rattle.qc_text.specs.Scanning.{IsFront, is_pair, begins_pair, hexadecimal_run}
+use Rattle.qc_text.specs.Inner.Scanning.{IsFront, is_pair, begins_pair, hexadecimal_run}
 use Rattle.qc_text.specs.Pieces.{IsFirst, IsPieceText}
 use Rattle.qc_text.specs.Tokens.{is_blank, is_name_start, is_name_part, is_punctuation, is_string_byte, IsNameText, IsNumberText, IsStringText, IsPunctText, IsComment}
 use Rattle.qc_text.proofs.Runs.{both_true, run_covers, run_ends, run_passes}

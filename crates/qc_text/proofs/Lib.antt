@@ -1,11 +1,8 @@
 pub mod Comments
 pub mod Cuts
-pub mod Decimals
 pub mod Fronts
-pub mod Lexemes
 pub mod Numerals
 pub mod Runs
-pub mod Scanned
 pub mod Scans
 pub mod Shapes
 pub mod Spans

@@ -3,10 +3,9 @@ use Rattle.std.proofs.Common.{ℕ, ◌≡◌, ◌≢◌, ◌∙◌, ◌+◌, ◌
 use Rattle.std.proofs.lemmas.List.{length-take-le}
 use Rattle.std.specs.Prelude.{None, Some}
 use Rattle.qc_text.specs.declared.piece.Front.{Front}
-use Rattle.qc_text.specs.declared.token.Kind.TheVariants.{End}
 use Rattle.qc_text.specs.declared.token.Token.{Token}
-use Rattle.qc_text.specs.Scanning.{IsFront}
-use Rattle.qc_text.specs.Pieces.{Piece, IsFirst, AreCut, place_after, token_at, tokens_of, AreTokens, IsBadByte}
+use Rattle.qc_text.specs.Inner.Scanning.{IsFront}
+use Rattle.qc_text.specs.Pieces.{Piece, IsFirst, AreCut, place_after, token_at, tokens_of}
 
 -- the bytes from a place on are whole pieces, and these are the tokens
 pub record AreTokensFrom (at : ℕ) (bytes : List ℕ) (tokens : List Token) : Type 0 where
@@ -22,24 +21,6 @@ pub record IsBadFrom (at : ℕ) (bytes : List ℕ) (bad : ℕ) : Type 0 where
   pub place : bad ≡ place_after at pieces
   pub some : rest ≢ []
   pub none : (piece : Piece) (after : List ℕ) → IsFirst rest piece after → ⊥
-
-pub all_tokens : (bytes : List ℕ) (tokens : List Token) → AreTokensFrom 0 bytes tokens → AreTokens bytes tokens
-all_tokens bytes tokens from = record { pieces = from.pieces; cut = from.cut; are = from.are }
-
-pub all_bad : (bytes : List ℕ) (bad : ℕ) → IsBadFrom 0 bytes bad → IsBadByte bytes bad
-all_bad bytes bad from =
-    record {
-      pieces = from.pieces;
-      rest = from.rest;
-      cut = from.cut;
-      place = from.place;
-      some = from.some;
-      none =
-          from.none;
-    }
-
-pub last_token : (at : ℕ) (bytes : List ℕ) → bytes ≡ [] → AreTokensFrom at bytes (token_at at (Some End) at)
-last_token at bytes e = record { pieces = []; cut = e; are = refl }
 
 pub bad_here : (at : ℕ) (bytes : List ℕ) → bytes ≢ [] → IsFront bytes None → IsBadFrom at bytes at
 unfolding IsFront

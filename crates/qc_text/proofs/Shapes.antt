@@ -10,7 +10,7 @@ use Rattle.qc_text.specs.declared.token.Kind.{Kind}
 use Rattle.qc_text.specs.declared.token.Kind.TheVariants.{Name, Prim, Number, Str, Punct, End}
 use Rattle.qc_text.specs.Tokens.{is_blank, is_name_start, is_name_part, is_punctuation, IsNameText, IsNumberText, IsStringText, IsPunctText, IsComment}
 use Rattle.qc_text.specs.Pieces.{IsPieceText}
-use Rattle.qc_text.specs.Scanning.{is_pair}
+use Rattle.qc_text.specs.Inner.Scanning.{is_pair}
 
 pub data Sort : Type 0 where
   names : Sort

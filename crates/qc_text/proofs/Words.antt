@@ -9,8 +9,8 @@ use Rattle.qc_text.specs.declared.token.Kind.TheVariants.{End}
 use Rattle.qc_text.specs.declared.token.Token.{Token}
 use Rattle.qc_text.specs.Tokens.{is_name_start, is_name_part, is_string_byte, IsNameText, IsNumberText, IsStringText, IsTokenText, IsComment}
 use Rattle.qc_text.specs.Pieces.{Piece, IsPieceText, IsFirst, AreCut, tokens_of, AreTokens}
-use Rattle.qc_text.specs.Scanning.{is_pair}
-use Rattle.qc_text.specs.Spaced.{spaced, AreWords, texts_of, words_in}
+use Rattle.qc_text.specs.Inner.Scanning.{is_pair}
+use Rattle.qc_text.specs.PrintedWords.{spaced, AreWords, texts_of, words_in}
 use Rattle.qc_text.proofs.Runs.{both_true}
 use Rattle.qc_text.proofs.Shapes.{Sort, names, numbers, prims, strings, slashes, blanks, marks, others, sort_of, Shape, a_name, a_number, a_prim, a_string, a_slash, a_comment, a_blank, a_mark, a_pair, shape, sort_blank, sort_slash}
 

@@ -1,8 +1,6 @@
 -- The numbers that numerals stand for.
-use Rattle.std.specs.Prelude.{ℕ, ◌+◌, ◌-◌, ◌*◌, ◌^◌, min, nat_eq, nat_lt, if◌then◌else◌, List, [], ◌∷◌, codes, drop}
+use Rattle.std.specs.Prelude.{ℕ, ◌+◌, ◌-◌, ◌*◌, nat_eq, nat_lt, if◌then◌else◌, List, [], ◌∷◌, codes, drop}
 use Rattle.std.specs.List.{starts_with}
-use Rattle.qc_text.specs.declared.number.Number.{Number}
-use Rattle.qc_text.specs.Lexeme.{Lexeme}
 
 -- `0` to `9` are 0 to 9, and `A` to `F` and `a` to `f` are 10 to 15
 abbrev pub digit_value : ℕ → ℕ
@@ -16,7 +14,3 @@ number_on base n (digit ∷ digits) = number_on base (base * n + digit_value dig
 -- A number behind `0x` is in base 16, another one in base 10.
 abbrev pub number_of : List ℕ → ℕ
 number_of text = if starts_with nat_eq text (codes "0x") then number_on 16 0 (drop 2 text) else number_on 10 0 text
-
--- a number's token with its value, where all numbers of 2^64 and more are told as 2^64
-abbrev pub number_in : Lexeme → Number
-number_in token = record { token = token.number; value = min (number_of token.text) (2 ^ 64) }

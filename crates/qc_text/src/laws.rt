@@ -1,9 +1,11 @@
 //! Facts about all files and their tokens. A caller of one of these functions has its `ensures`; no code runs.
 ghost use Rattle.std.specs.Prelude.{◌≡◌, ◌≤◌, ◌<◌, ◌+◌, ◌++◌, ◌∷◌, ◌≢◌, [], ℕ, List, Some, All, length, slice_get};
+ghost use Rattle.qc_text.specs.declared.token.Kind.{Kind};
 ghost use Rattle.qc_text.specs.declared.token.Kind.TheVariants.{End};
 ghost use Rattle.qc_text.specs.declared.token.Token.{Token};
 ghost use Rattle.qc_text.specs.Tokens.{IsTokenText, token_text};
 ghost use Rattle.qc_text.specs.Pieces.{AreTokens, IsBadByte, token_at};
+ghost use Rattle.qc_text.specs.PrintedWords.{spaced, AreWords, texts_of, words_in};
 
 /// Tokens lie inside their file. They are in order, and no two share a byte.
 pub fn spans_in_order()
@@ -36,4 +38,11 @@ pub fn one_token_list()
 pub fn one_bad_byte()
     ensures one { (bytes : List ℕ) (at place : ℕ) → IsBadByte bytes at → IsBadByte bytes place → at ≡ place }
     ensures none { (bytes : List ℕ) (tokens : List Token) (at : ℕ) → AreTokens bytes tokens → IsBadByte bytes at → ⊥ }
+{}
+
+/// Texts of tokens with a blank after each are a file whose tokens have these kinds and these texts.
+pub fn words_are_tokens()
+    ensures { (words : List (Kind × List ℕ)) → AreWords words → (tokens : List Token)
+        × AreTokens (spaced (texts_of words)) tokens
+        × (words_in (spaced (texts_of words)) tokens ≡ words ++ (End, []) ∷ []) }
 {}

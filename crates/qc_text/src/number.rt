@@ -5,14 +5,6 @@ ghost use Rattle.qc_text.specs.Numerals as spec;
 
 const LIMIT: u128 = 1 << 64;
 
-/// A number of a text: its token's number, and its value, where all numbers of 2^64 and more are told as 2^64, which is
-/// above every limit.
-#[derive(Clone, Copy, Debug, PartialEq, Eq)]
-pub struct Number {
-    pub token: usize,
-    pub value: u128,
-}
-
 fn digit_value(digit: u8) -> u128
     ensures value { result ≡ spec.digit_value digit }
     ensures small { result < 256 }
@@ -47,22 +39,5 @@ pub fn number_value(text: &[u8]) -> u128
         capped(16, text.split_at(2).1)
     } else {
         capped(10, text)
-    }
-}
-
-#[cfg(test)]
-mod tests {
-    use super::*;
-
-    #[test]
-    fn values(rt: HostRuntime) {
-        assert_eq!(rt; number_value(b"0"), 0);
-        assert_eq!(rt; number_value(b"00120"), 120);
-        assert_eq!(rt; number_value(b"0x0fA9"), 4009);
-        assert_eq!(rt; number_value(b"18446744073709551615"), 18446744073709551615);
-        assert_eq!(rt; number_value(b"18446744073709551616"), 18446744073709551616);
-        assert_eq!(rt; number_value(b"18446744073709551617"), 18446744073709551616);
-        assert_eq!(rt; number_value(b"0xFFFFFFFFFFFFFFFF"), 18446744073709551615);
-        assert_eq!(rt; number_value(&[b'9'; 400]), 18446744073709551616);
     }
 }

@@ -2,8 +2,8 @@
 ghost use Rattle.std.specs.Prelude.{◌≡◌, ◌≢◌, ◌+◌, ◌<◌, ◌≤◌, ◌∷◌, ℕ, true, length, slice_index, IfSome, IsNone, IsTrue};
 ghost use Rattle.std.specs.Char.{is_ascii_digit};
 ghost use Rattle.qc_text.specs.Tokens as spec;
-ghost use Rattle.qc_text.specs.Scanning as answers;
-ghost use Rattle.qc_text.specs.Scanning.{IsFront};
+ghost use Rattle.qc_text.specs.Inner.Scanning as answers;
+ghost use Rattle.qc_text.specs.Inner.Scanning.{IsFront};
 
 use crate::run::{Class, is_name_start, run_length};
 use crate::token::Kind;

@@ -2,7 +2,7 @@
 ghost use Rattle.std.specs.Prelude.{◌≡◌, ◌≤◌, length};
 ghost use Rattle.std.specs.List.{prefix_len};
 ghost use Rattle.qc_text.specs.Tokens as spec;
-ghost use Rattle.qc_text.specs.Scanning.{is_in};
+ghost use Rattle.qc_text.specs.Inner.Scanning.{is_in};
 
 /// The bytes that may stand in a name, in a number of base 10 or 16, between quotes, or in a comment of one line.
 #[derive(Clone, Copy)]

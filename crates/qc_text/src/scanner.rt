@@ -58,6 +58,3 @@ pub fn tokens(alloc: Global, bytes: &[u8]) -> Result<Vec<Token>, TextEnd>
         Err(_) => Err(TextEnd::NoMemory),
     }
 }
-
-#[cfg(test)]
-mod tests;

@@ -1,64 +1,64 @@
--- What is told of arguments for parameters, one after the other.
+-- What is reported of arguments for parameters, one after the other.
 use Rattle.std.proofs.Common.{ℕ, ◌≡◌, List, [], ◌∷◌, Option, Some, None, map, refl}
 use Rattle.qc_lrtl.specs.declared.syntax.Expr.{Expr}
 use Rattle.qc_widths.specs.declared.faults.WidthFault.{WidthFault}
-use Rattle.qc_widths.specs.Faults.{told, told_of_both}
+use Rattle.qc_widths.specs.Faults.{reported, reported_of_both, token_of, rank_of}
 use Rattle.qc_widths.specs.Scopes.{Names}
 use Rattle.qc_widths.specs.Expressions.{expression_of, argument_faults}
 use Rattle.qc_widths.specs.Effects.{target_faults, targets_at}
-use Rattle.qc_widths.specs.Summaries.{lesser, least, at_most_one}
-use Rattle.qc_widths.specs.ArgumentFaults.{one_argument_faults, one_target_faults, one_target_at}
-use Rattle.qc_widths.proofs.Told.{told-append, both_assoc, both-none}
+use Rattle.qc_widths.specs.Inner.KeptSignatures.{lesser, least, at_most_one}
+use Rattle.qc_widths.specs.Inner.ArgumentFaults.{one_argument_faults, one_target_faults, one_target_at}
+use Rattle.qc_names.specs.Law.Reported.{reported-append, both_assoc, both-none}
 use Rattle.qc_widths.proofs.Kept.{lesser-assoc, lesser-none, least-append, least-none}
 use Rattle.qc_widths.proofs.Paired.{IsPairwise}
 
 -- arguments for parameters, plain or functions
-abbrev pub told_of_arguments : Names → List (Option ℕ) → List Expr → Option WidthFault
-told_of_arguments names params args = told (argument_faults names params (map expression_of args))
+abbrev pub reported_of_arguments : Names → List (Option ℕ) → List Expr → Option WidthFault
+reported_of_arguments names params args = reported (argument_faults names params (map expression_of args))
 
-abbrev pub told_of_argument : Names → Option ℕ → Expr → Option WidthFault
-told_of_argument names param arg = told (one_argument_faults names param (expression_of arg))
+abbrev pub reported_of_argument : Names → Option ℕ → Expr → Option WidthFault
+reported_of_argument names param arg = reported (one_argument_faults names param (expression_of arg))
 
 argument-step : (names : Names) (p : Option ℕ) (ps : List (Option ℕ)) (e : Expr) (es : List Expr)
-    → told_of_arguments names (p ∷ ps) (e ∷ es)
-    ≡ told_of_both (told_of_argument names p e) (told_of_arguments names ps es)
+    → reported_of_arguments names (p ∷ ps) (e ∷ es)
+    ≡ reported_of_both (reported_of_argument names p e) (reported_of_arguments names ps es)
 argument-step names None ps e es =
-    told-append (one_argument_faults names None (expression_of e)) (argument_faults names ps (map expression_of es))
+    reported-append token_of rank_of (one_argument_faults names None (expression_of e)) (argument_faults names ps (map expression_of es))
 argument-step names (Some arity) ps e es =
-    told-append (one_argument_faults names (Some arity) (expression_of e))
+    reported-append token_of rank_of (one_argument_faults names (Some arity) (expression_of e))
     (argument_faults names ps (map expression_of es))
 
-no-arguments : (names : Names) (ps : List (Option ℕ)) → told_of_arguments names ps [] ≡ None
+no-arguments : (names : Names) (ps : List (Option ℕ)) → reported_of_arguments names ps [] ≡ None
 no-arguments names [] = refl
 no-arguments names (None ∷ ps) = refl
 no-arguments names (Some arity ∷ ps) = refl
 
 pub arguments_pairwise : (names : Names)
-    → IsPairwise told_of_both None (told_of_arguments names) (told_of_argument names)
+    → IsPairwise reported_of_both None (reported_of_arguments names) (reported_of_argument names)
 arguments_pairwise names = record {
-  assoc = both_assoc;
-  unit = both-none;
+  assoc = both_assoc token_of rank_of;
+  unit = both-none token_of rank_of;
   step = argument-step names;
   left = λ es. refl;
   right = no-arguments names;
 }
 
 -- arguments for parameters that stand for targets
-abbrev pub told_of_targets : Names → List (Option ℕ) → List Expr → Option WidthFault
-told_of_targets names targets args = told (target_faults names (map at_most_one targets) (map expression_of args))
+abbrev pub reported_of_targets : Names → List (Option ℕ) → List Expr → Option WidthFault
+reported_of_targets names targets args = reported (target_faults names (map at_most_one targets) (map expression_of args))
 
-abbrev pub told_of_target : Names → Option ℕ → Expr → Option WidthFault
-told_of_target names target arg = told (one_target_faults names (at_most_one target) (expression_of arg))
+abbrev pub reported_of_target : Names → Option ℕ → Expr → Option WidthFault
+reported_of_target names target arg = reported (one_target_faults names (at_most_one target) (expression_of arg))
 
-no-target-faults : (names : Names) (ts : List (Option ℕ)) → told_of_targets names ts [] ≡ None
+no-target-faults : (names : Names) (ts : List (Option ℕ)) → reported_of_targets names ts [] ≡ None
 no-target-faults names [] = refl
 no-target-faults names (t ∷ ts) = refl
 
-pub targets_pairwise : (names : Names) → IsPairwise told_of_both None (told_of_targets names) (told_of_target names)
+pub targets_pairwise : (names : Names) → IsPairwise reported_of_both None (reported_of_targets names) (reported_of_target names)
 targets_pairwise names = record {
-  assoc = both_assoc;
-  unit = both-none;
-  step = λ t ts e es. told-append (one_target_faults names (at_most_one t) (expression_of e))
+  assoc = both_assoc token_of rank_of;
+  unit = both-none token_of rank_of;
+  step = λ t ts e es. reported-append token_of rank_of (one_target_faults names (at_most_one t) (expression_of e))
       (target_faults names (map at_most_one ts) (map expression_of es));
   left = λ es. refl;
   right = no-target-faults names;

@@ -3,28 +3,28 @@ use Rattle.std.specs.Prelude.{ℕ, ◌≡◌, ◌≤◌, ◌+◌, List, [], ◌�
 use Rattle.std.specs.List.{AllByRecursion}
 use Rattle.std.proofs.Common.{refl, ap, sym, ◌∙◌, subst, arith}
 use Rattle.std.proofs.lemmas.List.Elements.{All-from_recursion}
+use Rattle.qc_widths.specs.TextFaults.{second_declarations, acts_of_instruction, item_faults, faults_after, faults_of}
 use Rattle.qc_terms.specs.State.{Context}
-use Rattle.qc_descr.specs.Law.Bits.{each_append}
+use Rattle.qc_lists.specs.Law.Lists.{each_append}
 use Rattle.qc_lrtl.specs.declared.syntax.Item.{Item}
 use Rattle.qc_lrtl.specs.declared.syntax.Item.TheVariants as fact
 use Rattle.qc_lrtl.specs.declared.syntax.RawMachine.{RawMachine}
 use Rattle.qc_widths.specs.declared.facts.SpaceFacts.{SpaceFacts}
 use Rattle.qc_widths.specs.declared.faults.WidthFault.{WidthFault}
-use Rattle.qc_widths.specs.Faults.{told}
+use Rattle.qc_widths.specs.Faults.{reported}
 use Rattle.qc_widths.specs.Numbers.{width_in, width_faults}
 use Rattle.qc_widths.specs.Values.{bits_of}
 use Rattle.qc_widths.specs.Scopes.{Facts, Signature, Meaning}
 use Rattle.qc_widths.specs.Declarations.{word_in, space_of_item, spaces_in, facts_in, signature_of_item, meanings_in, instruction_name, space_name}
-use Rattle.qc_widths.specs.Machine.{second_names, item_faults, faults_after, faults_of, acts_of_instruction}
-use Rattle.qc_widths.specs.Typed.{IsComplete}
+use Rattle.qc_widths.proofs.Typed.{IsComplete}
 use Rattle.qc_widths.proofs.TypedNodes.{none_of, is_width}
 use Rattle.qc_widths.proofs.GoodTable.{IsSettled, settled}
 use Rattle.qc_widths.proofs.TypedOperations.{IsTypedOperation, kinds_in, typed_operation}
 
--- what is told of no fault is that there is none
-pub nothing_told : (fs : List WidthFault) → told fs ≡ None → fs ≡ []
-nothing_told [] e = refl
-nothing_told (f ∷ fs) e = cc e
+-- what is reported of no fault is that there is none
+pub nothing_reported : (fs : List WidthFault) → reported fs ≡ None → fs ≡ []
+nothing_reported [] e = refl
+nothing_reported (f ∷ fs) e = cc e
 
 -- an item without faults, wherever it stands
 pub record IsFaultless (facts : Facts) (whole : List Meaning) (item : Item) : Type 0 where
@@ -61,20 +61,7 @@ word_width facts whole [] all = record { is = refl; most = omega arith }
 word_width facts whole (fact.Word token bits ∷ items) all =
     let width : (width_in bits ≡ Some bits.value) × (1 ≤ bits.value) × (bits.value ≤ 64) = is_width bits all.0.none in
     subst IsWordWidth (sym width.0) (record { is = refl; most = width.2 })
-word_width facts whole (fact.ByteOrder token order ∷ items) all = word_width facts whole items all.1
-word_width facts whole (fact.Align token bytes ∷ items) all = word_width facts whole items all.1
-word_width facts whole (fact.SlotBits token bits ∷ items) all = word_width facts whole items all.1
-word_width facts whole (fact.Memory token bytes ∷ items) all = word_width facts whole items all.1
-word_width facts whole (fact.Code token end ∷ items) all = word_width facts whole items all.1
-word_width facts whole (fact.Data token end ∷ items) all = word_width facts whole items all.1
-word_width facts whole (fact.Space token name cells bits flags ∷ items) all = word_width facts whole items all.1
-word_width facts whole (fact.Zero token space cell ∷ items) all = word_width facts whole items all.1
-word_width facts whole (fact.Frame token space cell ∷ items) all = word_width facts whole items all.1
-word_width facts whole (fact.Link token space cell ∷ items) all = word_width facts whole items all.1
-word_width facts whole (fact.Allocatable token space first last ∷ items) all = word_width facts whole items all.1
-word_width facts whole (fact.Function token name params body ∷ items) all = word_width facts whole items all.1
-word_width facts whole (fact.Effects token name params body ∷ items) all = word_width facts whole items all.1
-word_width facts whole (fact.Instruction token name operands body ∷ items) all = word_width facts whole items all.1
+word_width facts whole (_ ∷ items) all = word_width facts whole items all.1
 
 -- a space whose cells have a width
 IsWide : SpaceFacts → Type 0
@@ -87,20 +74,7 @@ wide_item facts whole (fact.Space token name cells bits flags) is =
     let width : (width_in bits ≡ Some bits.value) × (1 ≤ bits.value) × (bits.value ≤ 64) =
     is_width bits (none_of (width_faults bits) _ is.none).0 in
     ((width.0 ∙ ap (λ w. Some (bits_of w)) (sym width.0), subst (λ w. bits_of w ≤ 64) (sym width.0) width.2), tt)
-wide_item facts whole (fact.Word token bits) is = tt
-wide_item facts whole (fact.ByteOrder token order) is = tt
-wide_item facts whole (fact.Align token bytes) is = tt
-wide_item facts whole (fact.SlotBits token bits) is = tt
-wide_item facts whole (fact.Memory token bytes) is = tt
-wide_item facts whole (fact.Code token end) is = tt
-wide_item facts whole (fact.Data token end) is = tt
-wide_item facts whole (fact.Zero token space cell) is = tt
-wide_item facts whole (fact.Frame token space cell) is = tt
-wide_item facts whole (fact.Link token space cell) is = tt
-wide_item facts whole (fact.Allocatable token space first last) is = tt
-wide_item facts whole (fact.Function token name params body) is = tt
-wide_item facts whole (fact.Effects token name params body) is = tt
-wide_item facts whole (fact.Instruction token name operands body) is = tt
+wide_item facts whole _ is = tt
 
 wide_spaces : (facts : Facts) (whole : List Meaning) (items : List Item) → AllByRecursion (IsFaultless facts whole) items
     → AllByRecursion IsWide (spaces_in items)
@@ -156,20 +130,7 @@ typed_item : (facts : Facts) → IsComplete facts (context_in facts) → (ms : L
     → IsTypedItem facts ms item
 typed_item facts whole ms all (fact.Instruction token name operands body) is =
     typed_operation (context_in facts) facts whole ms all is.instructions token operands body is.none
-typed_item facts whole ms all (fact.Word token bits) is = tt
-typed_item facts whole ms all (fact.ByteOrder token order) is = tt
-typed_item facts whole ms all (fact.Align token bytes) is = tt
-typed_item facts whole ms all (fact.SlotBits token bits) is = tt
-typed_item facts whole ms all (fact.Memory token bytes) is = tt
-typed_item facts whole ms all (fact.Code token end) is = tt
-typed_item facts whole ms all (fact.Data token end) is = tt
-typed_item facts whole ms all (fact.Space token name cells bits flags) is = tt
-typed_item facts whole ms all (fact.Zero token space cell) is = tt
-typed_item facts whole ms all (fact.Frame token space cell) is = tt
-typed_item facts whole ms all (fact.Link token space cell) is = tt
-typed_item facts whole ms all (fact.Allocatable token space first last) is = tt
-typed_item facts whole ms all (fact.Function token name params body) is = tt
-typed_item facts whole ms all (fact.Effects token name params body) is = tt
+typed_item facts whole ms all _ is = tt
 
 typed_items : (facts : Facts) → IsComplete facts (context_in facts) → (ms : List Meaning)
     → AllByRecursion (IsSettled (context_in facts)) ms → (items : List Item) → AllByRecursion (IsFaultless facts ms) items
@@ -179,13 +140,13 @@ typed_items facts whole ms all (item ∷ items) is =
     (typed_item facts whole ms all item is.0, typed_items facts whole ms all items is.1)
 
 -- All instructions of a text without faults are well typed.
-pub typed_text : (raw : RawMachine) → told (faults_of raw) ≡ None
+pub typed_text : (raw : RawMachine) → reported (faults_of raw) ≡ None
     → AllByRecursion (IsTypedItem (facts_in raw.items) (meanings_in (facts_in raw.items) raw.items)) raw.items
 typed_text raw e =
     let facts : Facts = facts_in raw.items in
     let ms : List Meaning = meanings_in facts raw.items in
-    let parts : (second_names raw.items ≡ []) × (faults_after facts ms [] 0 0 raw.items ≡ []) =
-    none_of (second_names raw.items) (faults_after facts ms [] 0 0 raw.items) (nothing_told (faults_of raw) e) in
+    let parts : (second_declarations raw.items ≡ []) × (faults_after facts ms [] 0 0 raw.items ≡ []) =
+    none_of (second_declarations raw.items) (faults_after facts ms [] 0 0 raw.items) (nothing_reported (faults_of raw) e) in
     let all : AllByRecursion (IsFaultless facts ms) raw.items = faultless facts ms [] 0 0 raw.items parts.1 in
     let whole : IsComplete facts (context_in facts) = complete ms raw.items all in
     typed_items facts whole ms (settled (context_in facts) facts whole ms raw.items [] 0 0 tt parts.1) raw.items all

@@ -3,18 +3,20 @@ use Rattle.std.specs.Prelude.{ℕ, ◌≡◌, ◌≤◌, Bool, true, false, ◌|
 use Rattle.std.specs.List.{AllByRecursion, flat_map, list_any}
 use Rattle.std.specs.Str.{bytes_eq}
 use Rattle.std.proofs.Common.{refl, ap, sym, ◌∙◌, arith}
+use Rattle.std.proofs.lemmas.Bool.{or_parts}
 use Rattle.std.proofs.lemmas.Grind.{common_steps}
 use Rattle.std.proofs.lemmas.List.{map-append}
 use Rattle.std.proofs.lemmas.Slice.Eq.{bytes_eq-Decides}
-use Rattle.qc_descr.specs.Law.Bits.{each_of_append}
-use Rattle.qc_descr.specs.Parts.{AreDistinct}
-use Rattle.qc_text.specs.declared.cursor.Ident.{Ident}
+use Rattle.qc_widths.specs.TextFaults.{more_than}
+use Rattle.qc_widths.specs.TextFaults.{repeated_after}
+use Rattle.qc_lists.specs.Law.Lists.{each_of_append}
+use Rattle.qc_descr.specs.Names.{AreDistinct}
+use Rattle.qc_grammar.specs.declared.cursor.Ident.{Ident}
 use Rattle.qc_lrtl.specs.declared.syntax.Item.{Item}
 use Rattle.qc_lrtl.specs.declared.syntax.Item.TheVariants as fact
 use Rattle.qc_widths.specs.declared.faults.WidthFault.{WidthFault}
 use Rattle.qc_widths.specs.declared.faults.WidthFault.TheVariants.{TwiceNamed}
 use Rattle.qc_widths.specs.Declarations.{space_of_item, spaces_in, space_name}
-use Rattle.qc_widths.specs.Machine.{repeated_after, more_than}
 use Rattle.qc_widths.proofs.TypedNodes.{none_of}
 
 pub within_limit : (limit token count : ℕ) → more_than limit token count ≡ [] → count ≤ limit
@@ -34,10 +36,6 @@ other_bytes xs ys e = by_bool (bytes_eq ys xs) refl
     by_bool false is = refl
     by_bool true is = cc (e, (bytes_eq-Decides xs ys).1 (sym ((bytes_eq-Decides ys xs).0 is)))
 
-neither : (a b : Bool) → (a || b) ≡ false → (a ≡ false) × (b ≡ false)
-neither false b e = (refl, e)
-neither true b e = cc e
-
 none_yet : (earlier : List (List ℕ)) → AllByRecursion (λ a. list_any (bytes_eq a) [] ≡ false) earlier
 none_yet [] = tt
 none_yet (a ∷ earlier) = (refl, none_yet earlier)
@@ -48,7 +46,7 @@ one_more : (name : List ℕ) (names : List (List ℕ)) (earlier : List (List ℕ
 one_more name names [] e all = tt
 one_more name names (a ∷ earlier) e all =
     let parts : (bytes_eq name a ≡ false) × (list_any (bytes_eq name) earlier ≡ false) =
-    neither (bytes_eq name a) (list_any (bytes_eq name) earlier) e in (
+    or_parts (bytes_eq name a) (list_any (bytes_eq name) earlier) e in (
       ap (λ b. b || list_any (bytes_eq a) names) (other_bytes name a parts.0) ∙ all.0,
       one_more name names earlier parts.1 all.1,
     )
@@ -89,18 +87,5 @@ names_of_spaces (item ∷ items) =
     ∙ sym (map-append (λ n. n.text) (space_name item) (flat_map space_name items))
   where
     of_item : (i : Item) → map (λ s. s.name) (space_of_item i) ≡ texts (space_name i)
-    of_item (fact.Space token name cells bits flags) = refl
-    of_item (fact.Word token bits) = refl
-    of_item (fact.ByteOrder token order) = refl
-    of_item (fact.Align token bytes) = refl
-    of_item (fact.SlotBits token bits) = refl
-    of_item (fact.Memory token bytes) = refl
-    of_item (fact.Code token end) = refl
-    of_item (fact.Data token end) = refl
-    of_item (fact.Zero token space cell) = refl
-    of_item (fact.Frame token space cell) = refl
-    of_item (fact.Link token space cell) = refl
-    of_item (fact.Allocatable token space first last) = refl
     of_item (fact.Function token name params body) = refl
-    of_item (fact.Effects token name params body) = refl
-    of_item (fact.Instruction token name operands body) = refl
+    of_item _ = refl

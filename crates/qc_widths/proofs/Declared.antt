@@ -5,8 +5,8 @@ use Rattle.std.proofs.Common.{refl, ap, sym, subst, ◌∙◌, arith, add-zero, 
 use Rattle.std.proofs.lemmas.List.{append-nil, length-map}
 use Rattle.std.proofs.Math.Seq.{take-append_seam}
 use Rattle.std.proofs.lemmas.List.{map-append}
-use Rattle.qc_descr.specs.Law.Places.{slice_get-append_right}
-use Rattle.qc_text.specs.declared.cursor.Ident.{Ident}
+use Rattle.qc_lists.specs.Law.Lists.{slice_get-append_right}
+use Rattle.qc_grammar.specs.declared.cursor.Ident.{Ident}
 use Rattle.qc_lrtl.specs.declared.syntax.Effect.{Effect}
 use Rattle.qc_lrtl.specs.declared.syntax.Expr.{Expr}
 use Rattle.qc_lrtl.specs.declared.syntax.Param.{Param}
@@ -162,12 +162,6 @@ places facts items name =
     ∙ ap (λ l. place_of (placed_from 0 (λ n. n) l name)) (names_after facts [] items)
     ∙ sym (placed_map ident_text 0 (flat_map function_name items) name)
 
-pub place_within : (facts : Facts) (items : List Item) (name : List ℕ) (number : ℕ)
-    → place_of_function items name ≡ Some number → number < length (function_items items)
-place_within facts items name number e =
-    let r = placed_named ident_text 0 number (flat_map function_name items) name e in
-    omega (arith, r.at, r.within, counts facts items)
-
 -- the meaning that a name has among the functions before a level
 pub record MeaningAt (facts : Facts) (items : List Item) (level number : ℕ) (name : List ℕ) : Type 0 where
   pub meaning : Meaning
@@ -288,6 +282,31 @@ no_effects_means facts items number item m e not g =
     let z : 0 + number ≡ number = omega arith in
     let k : r.meaning ≡ m = some_meaning r.meaning m (sym r.gets ∙ ap (λ n. slice_get ms n) z ∙ g) in
     ap (λ x. x.signature.effects) (sym k) ∙ no_effects facts (take (0 + number) ms) item r.meaning r.means not
+
+-- the meaning of a number
+meaning_there : (facts : Facts) (items : List Item) (number : ℕ) (item : Item)
+    → slice_get (function_items items) number ≡ Some item
+    → (m : Meaning) × (slice_get (meanings_in facts items) number ≡ Some m)
+meaning_there facts items number item e =
+    let r = means_at facts [] items number item e in
+    let z : 0 + number ≡ number = omega arith in
+    (r.meaning, ap (λ n. slice_get (meanings_in facts items) n) (sym z) ∙ r.gets)
+
+pub no_function_at : (facts : Facts) (items : List Item) (number : ℕ) (item : Item)
+    → slice_get (function_items items) number ≡ Some item
+    → ((token : ℕ) (name : Ident) (params : List Param) (body : Expr) → item ≡ fact.Function token name params body → ⊥)
+    → (m : Meaning) × (slice_get (meanings_in facts items) number ≡ Some m) × (m.signature.effects ≡ true)
+no_function_at facts items number item e not =
+    let r = meaning_there facts items number item e in
+    (r.0, r.1, no_function_means facts items number item r.0 e not r.1)
+
+pub no_effects_at : (facts : Facts) (items : List Item) (number : ℕ) (item : Item)
+    → slice_get (function_items items) number ≡ Some item
+    → ((token : ℕ) (name : Ident) (params : List Param) (body : List Effect) → item ≡ fact.Effects token name params body → ⊥)
+    → (m : Meaning) × (slice_get (meanings_in facts items) number ≡ Some m) × (m.signature.effects ≡ false)
+no_effects_at facts items number item e not =
+    let r = meaning_there facts items number item e in
+    (r.0, r.1, no_effects_means facts items number item r.0 e not r.1)
 
 pub as_many : (facts : Facts) (items : List Item) → length (meanings_in facts items) ≡ length (function_items items)
 as_many facts items =

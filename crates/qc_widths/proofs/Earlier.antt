@@ -6,7 +6,7 @@ use Rattle.qc_lrtl.specs.declared.syntax.Item.{Item}
 use Rattle.qc_lrtl.specs.declared.syntax.Item.TheVariants as fact
 use Rattle.qc_widths.specs.declared.signatures.Signature as kept
 use Rattle.qc_widths.specs.Scopes.{Facts, Meaning, Signature}
-use Rattle.qc_widths.specs.Summaries.{summary}
+use Rattle.qc_widths.specs.Inner.KeptSignatures.{summary}
 use Rattle.qc_widths.specs.Declarations.{function_name, signature_of_item, signatures_after, signatures_in, signatures_of, meaning_of_item, meanings_after, meanings_in}
 
 -- the functions of items, and of more after them
@@ -73,21 +73,8 @@ all_of_them all kept is =
 -- how many functions and named effects there are
 length-item : (facts : Facts) (earlier : List Signature) (item : Item)
     → length (signature_of_item facts earlier item) ≡ length (function_name item)
-length-item facts earlier (fact.Word token bits) = refl
-length-item facts earlier (fact.ByteOrder token order) = refl
-length-item facts earlier (fact.Align token bytes) = refl
-length-item facts earlier (fact.SlotBits token bits) = refl
-length-item facts earlier (fact.Memory token bytes) = refl
-length-item facts earlier (fact.Code token end) = refl
-length-item facts earlier (fact.Data token end) = refl
-length-item facts earlier (fact.Space token name cells bits flags) = refl
-length-item facts earlier (fact.Zero token space cell) = refl
-length-item facts earlier (fact.Frame token space cell) = refl
-length-item facts earlier (fact.Link token space cell) = refl
-length-item facts earlier (fact.Allocatable token space first last) = refl
 length-item facts earlier (fact.Function token name params body) = refl
-length-item facts earlier (fact.Effects token name params body) = refl
-length-item facts earlier (fact.Instruction token name operands body) = refl
+length-item facts earlier _ = refl
 
 pub signatures-length : (facts : Facts) (earlier : List Signature) (items : List Item)
     → length (signatures_after facts earlier items) ≡ length earlier + length (flat_map function_name items)
@@ -99,33 +86,11 @@ signatures-length facts earlier (item ∷ items) =
     let names = length-append (function_name item) (flat_map function_name items) in
     omega arith
 
--- the functions before an item are no more than all
-pub before-within : (facts : Facts) (items : List Item) (number : ℕ)
-    → length (signatures_after facts [] (take number items)) ≤ length (signatures_in facts items)
-before-within facts items number =
-    let earlier : List Signature = signatures_after facts [] (take number items) in
-    let all : List Signature = signatures_in facts items in
-    let e = ap length (signatures-before facts items number) in
-    omega (arith, e, length-take (length earlier) all)
-
 -- the signatures of what functions come to
 signature-item : (facts : Facts) (earlier : List Meaning) (item : Item)
     → signatures_of (meaning_of_item facts earlier item) ≡ signature_of_item facts (signatures_of earlier) item
-signature-item facts earlier (fact.Word token bits) = refl
-signature-item facts earlier (fact.ByteOrder token order) = refl
-signature-item facts earlier (fact.Align token bytes) = refl
-signature-item facts earlier (fact.SlotBits token bits) = refl
-signature-item facts earlier (fact.Memory token bytes) = refl
-signature-item facts earlier (fact.Code token end) = refl
-signature-item facts earlier (fact.Data token end) = refl
-signature-item facts earlier (fact.Space token name cells bits flags) = refl
-signature-item facts earlier (fact.Zero token space cell) = refl
-signature-item facts earlier (fact.Frame token space cell) = refl
-signature-item facts earlier (fact.Link token space cell) = refl
-signature-item facts earlier (fact.Allocatable token space first last) = refl
 signature-item facts earlier (fact.Function token name params body) = refl
-signature-item facts earlier (fact.Effects token name params body) = refl
-signature-item facts earlier (fact.Instruction token name operands body) = refl
+signature-item facts earlier _ = refl
 
 signatures-meanings : (facts : Facts) (earlier : List Meaning) (items : List Item)
     → signatures_of (meanings_after facts earlier items) ≡ signatures_after facts (signatures_of earlier) items

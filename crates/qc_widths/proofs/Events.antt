@@ -1,5 +1,5 @@
--- Effects show as many things as is told of them without their uses.
-use Rattle.std.specs.Prelude.{ℕ, suc, ◌≡◌, ◌+◌, Bool, true, false, cond, if◌then◌else◌, List, [], ◌∷◌, ◌++◌, length, map, Option, None, Some}
+-- Effects show as many things as is known of them without their uses.
+use Rattle.std.specs.Prelude.{ℕ, suc, ◌≡◌, ◌+◌, Bool, true, false, cond, if◌then◌else◌, List, [], ◌∷◌, ◌++◌, length, map, Option, None, Some, IfSome, is_some}
 use Rattle.std.specs.List.{AllByRecursion, flat_map}
 use Rattle.std.specs.Option.{option_map}
 use Rattle.std.specs.Str.{bytes_eq}
@@ -8,7 +8,6 @@ use Rattle.std.proofs.lemmas.Grind.{common_steps}
 use Rattle.std.proofs.lemmas.List.{length-map, length-append}
 use Rattle.std.proofs.lemmas.List.Sums.{sum_by-append}
 use Rattle.qc_words.specs.declared.operator.Op.{Op}
-use Rattle.qc_names.specs.Tables.{is_there}
 use Rattle.qc_terms.specs.Typing.{is_event}
 use Rattle.qc_lrtl.specs.declared.syntax.Expr.{Expr}
 use Rattle.qc_lrtl.specs.declared.syntax.Guard.{Guard}
@@ -22,9 +21,9 @@ use Rattle.qc_widths.specs.Scopes.{Act, Bound, Signature, Meaning, Scope, Names,
 use Rattle.qc_widths.specs.Expressions.{Expression, expression_of, value_of, target_of, bindings}
 use Rattle.qc_widths.specs.Effects.{act_on, acts_of_meaning, acts_of_simple, guarded, acts_under, acts_of_effect, acts_of, effects_of, events_of, simple_events, effect_events}
 use Rattle.qc_widths.specs.Declarations.{signatures_of}
-use Rattle.qc_widths.specs.Typed.{count_events, TellsEvents}
+use Rattle.qc_widths.proofs.Typed.{count_events, TellsEvents}
 use Rattle.qc_widths.proofs.TypedNodes.{by_conds}
-use Rattle.qc_widths.proofs.Fine.{IfThere, named_of_map, named_is}
+use Rattle.qc_widths.proofs.Fine.{named_of_map, named_is}
 
 -- the same names, whatever they stand for
 abbrev pub SameNames : List (List ℕ × Local) → List (List ℕ × Bound) → Type 0
@@ -34,10 +33,10 @@ SameNames (l ∷ locals) [] = ⊥
 SameNames (l ∷ locals) (b ∷ bounds) = (l.0 ≡ b.0) × SameNames locals bounds
 
 abbrev SameThere : Option (List ℕ × Local) → Option (List ℕ × Bound) → Type 0
-SameThere l b = is_there (local_bound l) ≡ is_there (local_bound b)
+SameThere l b = is_some (local_bound l) ≡ is_some (local_bound b)
 
 same_there : (locals : List (List ℕ × Local)) (bounds : List (List ℕ × Bound)) (name : List ℕ) → SameNames locals bounds
-    → is_there (local_bound (named (λ p. p.0) locals name)) ≡ is_there (local_bound (named (λ p. p.0) bounds name))
+    → is_some (local_bound (named (λ p. p.0) locals name)) ≡ is_some (local_bound (named (λ p. p.0) bounds name))
 same_there [] [] name same = refl
 same_there [] (b ∷ bounds) name same = absurd same
 same_there (l ∷ locals) [] name same = absurd same
@@ -88,7 +87,7 @@ module _ (names : Names) (scope : Scope) (same : SameNames names.locals scope.lo
     (functions : names.functions ≡ signatures_of scope.functions)
     (tell : AllByRecursion TellsEvents scope.functions) where
   use_case : (l : Option Local) (b : Option Bound) (o : Option Op) (m : Option Meaning) (args : List Expr)
-      → is_there l ≡ is_there b → IfThere TellsEvents m
+      → is_some l ≡ is_some b → IfSome m TellsEvents
       → shown_among (acts_of_meaning scope b o m (map expression_of args))
       ≡ length (events_of (effects_of l o (option_map (λ x. x.signature) m) (length args)))
   use_case None (Some b) o m args e t = cc e
@@ -113,11 +112,6 @@ module _ (names : Names) (scope : Scope) (same : SameNames names.locals scope.lo
           (all_bound scope m.signature.params (map expression_of args) (count ∙ sym (length-map args expression_of)))
 
   shown_simple : (simple : Simple) → shown_among (acts_of_simple scope simple) ≡ length (simple_events names simple)
-  shown_simple (Pc token value) = refl
-  shown_simple (Out token value) = refl
-  shown_simple (Halt token value) = refl
-  shown_simple (Trap token value) = refl
-  shown_simple (Mem token bits address value) = refl
   shown_simple (Name name value) = shown_on (target_of scope (Some name)) (value_of scope value)
   shown_simple (Cell space cell value) = shown_on (cell_named scope.facts space cell) (value_of scope value)
   shown_simple (Use name args) =
@@ -127,6 +121,7 @@ module _ (names : Names) (scope : Scope) (same : SameNames names.locals scope.lo
       ∙ ap (λ s. length (events_of (effects_of (local_in names name.text) (operator_named name.text) s (length args))))
       (sym (ap (λ fs. named (λ s. s.name) fs name.text) functions
       ∙ named_of_map (λ m. m.signature) (λ s. s.name) scope.functions name.text))
+  shown_simple _ = refl
 
   shown_under : (guard : Option Guard) (acts : List Act) → shown_among (acts_under scope guard acts) ≡ shown_among acts
   shown_under None acts = refl

@@ -4,7 +4,7 @@ use Rattle.std.proofs.Common.{ap, arith}
 use Rattle.std.proofs.lemmas.Nat.{mul-le}
 use Rattle.std.proofs.Math.Nat.{suc-mul}
 use Rattle.qc_lrtl.specs.declared.syntax.Item.{Item}
-use Rattle.qc_widths.specs.Potential.{depth_of, depths_of, potential_of}
+use Rattle.qc_widths.specs.Inner.Measure.{depth_of, depths_of, potential_of}
 
 times : (a b d : ℕ) → a < b → a * d + d ≤ b * d
 times a b d h =

@@ -1,5 +1,5 @@
 -- An expression without faults comes to a well typed term, where its widths don't clash.
-use Rattle.std.specs.Prelude.{ℕ, ◌≡◌, ◌≢◌, Bool, true, false, cond, nat_eq, if◌then◌else◌, List, [], ◌∷◌, length, map, All, Option, None, Some, IfSome}
+use Rattle.std.specs.Prelude.{ℕ, ◌≡◌, ◌≢◌, Bool, true, false, cond, nat_eq, if◌then◌else◌, List, [], ◌∷◌, length, map, All, Option, None, Some, IfSome, is_some}
 use Rattle.std.specs.List.{AllByRecursion, list_all}
 use Rattle.std.specs.Option.{option_map}
 use Rattle.std.specs.Str.{bytes_eq}
@@ -7,19 +7,19 @@ use Rattle.std.proofs.Common.{refl, ap, sym, ◌∙◌, subst, arith}
 use Rattle.std.proofs.lemmas.Grind.{common_steps}
 use Rattle.std.proofs.lemmas.List.{length-map}
 use Rattle.std.proofs.lemmas.List.Elements.{recursion_from_All, All-from_recursion}
+use Rattle.qc_widths.specs.Faults.{unknown_unless}
 use Rattle.qc_words.specs.declared.operator.Op.{Op}
-use Rattle.qc_names.specs.Tables.{is_there}
 use Rattle.qc_terms.specs.State.{Context}
 use Rattle.qc_descr.specs.declared.description.OperandKind.{OperandKind}
-use Rattle.qc_text.specs.declared.cursor.Ident.{Ident}
+use Rattle.qc_grammar.specs.declared.cursor.Ident.{Ident}
 use Rattle.qc_widths.specs.declared.faults.WidthFault.{WidthFault}
 use Rattle.qc_widths.specs.declared.faults.WidthFault.TheVariants.{UnknownName}
 use Rattle.qc_widths.specs.declared.facts.Local.{Local}
 use Rattle.qc_widths.specs.declared.facts.Local.TheVariants.{Plain as plain, Applied as applied}
 use Rattle.qc_widths.specs.Values.{Value, faulty, operator_at}
 use Rattle.qc_widths.specs.Scopes.{Bound, argument, operand, function, Signature, Meaning, Scope, Names, named, local_bound, bound_in, local_in, meaning_in, signature_in, is_plain, takes, operator_named, operands_of}
-use Rattle.qc_widths.specs.Expressions.{Expression, value_of_bound, target_of_bound, target_of, function_of, function_of_meaning, function_of_operator, function_of_bound, bindings, use_of, use_of_meaning, use_of_operator, use_of_bound, alone_faults, is_function, is_function_of_signature, is_function_of_operator, is_function_of_local, plain_faults, argument_faults, known_or, use_faults, use_faults_of_signature, use_faults_of_operator, use_faults_of_local}
-use Rattle.qc_widths.specs.Typed.{IsGood, IsTypedTarget, IsGoodBound, SuitParams, IsGoodMeaning, IsGoodScope, MatchesLocal, MatchLocals, Matches}
+use Rattle.qc_widths.specs.Expressions.{Expression, value_of_bound, target_of_bound, target_of, function_of, function_of_meaning, function_of_operator, function_of_bound, bindings, use_of, use_of_meaning, use_of_operator, use_of_bound, alone_faults, is_function, is_function_of_signature, is_function_of_operator, is_function_of_local, plain_faults, argument_faults, use_faults, use_faults_of_signature, use_faults_of_operator, use_faults_of_local}
+use Rattle.qc_widths.proofs.Typed.{IsGood, IsTypedTarget, IsGoodBound, SuitParams, IsGoodMeaning, IsGoodScope, MatchesLocal, MatchLocals, Matches}
 use Rattle.qc_widths.proofs.TypedNodes.{none_of, by_cond, by_conds}
 use Rattle.qc_widths.proofs.PlainOperators.{IsPlain, plain_operator, good_operator}
 
@@ -53,22 +53,18 @@ named_of_map g name_of (x ∷ xs) name =
     by_conds (λ u v. u ≡ option_map g v) (bytes_eq (name_of (g x)) name) (Some (g x)) (named name_of (map g xs) name)
     (Some x) (named (λ y. name_of (g y)) xs name) refl (named_of_map g name_of xs name)
 
-abbrev pub IfThere : {A : Type 0} → (A → Type 0) → Option A → Type 0
-IfThere P None = Unit {0}
-IfThere P (Some x) = P x
-
 pub named_is : {A : Type 0} (P : A → Type 0) (name_of : A → List ℕ) (xs : List A) (name : List ℕ) → AllByRecursion P xs
-    → IfThere P (named name_of xs name)
+    → IfSome (named name_of xs name) P
 named_is P name_of [] name all = tt
 named_is P name_of (x ∷ xs) name all =
-    by_cond (IfThere P) (bytes_eq (name_of x) name) (Some x) (named name_of xs name) all.0
+    by_cond (λ o. IfSome o P) (bytes_eq (name_of x) name) (Some x) (named name_of xs name) all.0
     (named_is P name_of xs name all.1)
 
 pub unknown : (token : ℕ) (fs : List WidthFault) → UnknownName token ∷ fs ≡ [] → ⊥
 unknown token fs e = cc e
 
 -- a test that gives no fault
-known : (b : Bool) (token : ℕ) → known_or b token ≡ [] → b ≡ true
+known : (b : Bool) (token : ℕ) → unknown_unless b token ≡ [] → b ≡ true
 known true token e = refl
 known false token e = cc e
 
@@ -84,7 +80,7 @@ same a b e = grind (arith, common_steps)
 
 -- what the tests of a signature tell
 plain_parts : (s : Signature) (arity : ℕ) → is_plain s arity ≡ true → (s.effects ≡ false) × (length s.params ≡ arity)
-    × (list_all (λ p. cond (is_there p) false true) s.params ≡ true)
+    × (list_all (λ p. cond (is_some p) false true) s.params ≡ true)
 plain_parts s arity e = grind (arith, common_steps)
 
 takes_parts : (s : Signature) (count : ℕ) → takes false s count ≡ true
@@ -106,7 +102,7 @@ module _ (context : Context) (kinds : List OperandKind) (names : Names) (scope :
   signature name = ap (λ fs. named (λ s. s.name) fs name) matches.functions
       ∙ named_of_map (λ m. m.signature) (λ s. s.name) scope.functions name
 
-  pub meaning : (name : List ℕ) → IfThere (IsGoodMeaning context kinds) (meaning_in scope name)
+  pub meaning : (name : List ℕ) → IfSome (meaning_in scope name) (IsGoodMeaning context kinds)
   meaning name = named_is (IsGoodMeaning context kinds) (λ m. m.signature.name) scope.functions name
       (recursion_from_All (IsGoodMeaning context kinds) scope.functions good.functions)
 
@@ -143,7 +139,7 @@ module _ (context : Context) (kinds : List OperandKind) (names : Names) (scope :
 
   -- plain arguments suit plain parameters
   suit_plain : (params : List (Option ℕ)) (args : List Value) → length params ≡ length args
-      → list_all (λ p. cond (is_there p) false true) params ≡ true → AllByRecursion (IsGood context kinds) args
+      → list_all (λ p. cond (is_some p) false true) params ≡ true → AllByRecursion (IsGood context kinds) args
       → SuitParams context kinds params [] (map (λ v. argument v None) args)
   suit_plain [] [] e all goods = tt
   suit_plain [] (v ∷ args) e all goods = cc e
@@ -153,13 +149,13 @@ module _ (context : Context) (kinds : List OperandKind) (names : Names) (scope :
   suit_plain (Some arity ∷ params) (v ∷ args) e all goods = cc all
 
   -- a function of so many plain arguments that is declared
-  meaning_case : (m : Option Meaning) (arity : ℕ) (token : ℕ) (args : List Value) → IfThere (IsGoodMeaning context kinds) m
+  meaning_case : (m : Option Meaning) (arity : ℕ) (token : ℕ) (args : List Value) → IfSome m (IsGoodMeaning context kinds)
       → is_function_of_signature arity (option_map (λ x. x.signature) m) ≡ true → length args ≡ arity
       → AllByRecursion (IsGood context kinds) args → IsGood context kinds (function_of_meaning arity m token args)
   meaning_case None arity token args g e n all = cc e
   meaning_case (Some m) arity token args g e n all =
       let parts : (m.signature.effects ≡ false) × (length m.signature.params ≡ arity)
-      × (list_all (λ p. cond (is_there p) false true) m.signature.params ≡ true) = plain_parts m.signature arity e in
+      × (list_all (λ p. cond (is_some p) false true) m.signature.params ≡ true) = plain_parts m.signature arity e in
       subst (λ b. IsGood context kinds (if b then m.apply token (map (λ v. argument v None) args) else faulty token))
       (sym e)
       (g.value parts.0 token (map (λ v. argument v None) args)
@@ -168,7 +164,7 @@ module _ (context : Context) (kinds : List OperandKind) (names : Names) (scope :
       (suit_plain m.signature.params args (parts.1 ∙ sym n) parts.2 all)))
 
   operator_case : (o : Option Op) (m : Option Meaning) (arity : ℕ) (token : ℕ) (args : List Value)
-      → ((x : Op) → o ≡ Some x → IsPlain x) → IfThere (IsGoodMeaning context kinds) m
+      → ((x : Op) → o ≡ Some x → IsPlain x) → IfSome m (IsGoodMeaning context kinds)
       → is_function_of_operator arity o (option_map (λ x. x.signature) m) ≡ true → length args ≡ arity
       → AllByRecursion (IsGood context kinds) args → IsGood context kinds (function_of_operator arity o m token args)
   operator_case None m arity token args p g e n all = meaning_case m arity token args g e n all
@@ -178,7 +174,7 @@ module _ (context : Context) (kinds : List OperandKind) (names : Names) (scope :
 
   function_case : (l : Option Local) (b : Option Bound) (o : Option Op) (m : Option Meaning) (arity : ℕ) (token : ℕ)
       (args : List Value) → AreFound (λ x y. MatchesLocal x y × IsGoodBound context kinds y) l b
-      → ((x : Op) → o ≡ Some x → IsPlain x) → IfThere (IsGoodMeaning context kinds) m
+      → ((x : Op) → o ≡ Some x → IsPlain x) → IfSome m (IsGoodMeaning context kinds)
       → is_function_of_local arity l o (option_map (λ x. x.signature) m) ≡ true → length args ≡ arity
       → AllByRecursion (IsGood context kinds) args → IsGood context kinds (function_of_bound arity b o m token args)
   function_case None None o m arity token args f p g e n all = operator_case o m arity token args p g e n all
@@ -216,7 +212,7 @@ module _ (context : Context) (kinds : List OperandKind) (names : Names) (scope :
   AreThere [] args = Unit {0}
   AreThere (tokens ∷ targets) [] = Unit {0}
   AreThere (tokens ∷ targets) (a ∷ args) =
-      (tokens ≢ [] → is_there (target_of scope a.bare) ≡ true) × AreThere targets args
+      (tokens ≢ [] → is_some (target_of scope a.bare) ≡ true) × AreThere targets args
 
   pub suits : (params : List (Option ℕ)) (targets : List (List ℕ)) (args : List Expression) → length params ≡ length args
       → argument_faults names params args ≡ [] → AreThere targets args → AllByRecursion IsFineHere args
@@ -253,7 +249,7 @@ module _ (context : Context) (kinds : List OperandKind) (names : Names) (scope :
 
   -- a use of a declared function
   use_of_meaning_case : (m : Option Meaning) (token : ℕ) (args : List Expression)
-      → IfThere (IsGoodMeaning context kinds) m
+      → IfSome m (IsGoodMeaning context kinds)
       → use_faults_of_signature names false (option_map (λ x. x.signature) m) token args ≡ []
       → AllByRecursion IsFineHere args → IsGood context kinds (use_of_meaning scope m token args)
   use_of_meaning_case None token args g e all = absurd (unknown token (plain_faults names args) e)
@@ -273,13 +269,13 @@ module _ (context : Context) (kinds : List OperandKind) (names : Names) (scope :
       by_test false is faults = absurd (unknown token (plain_faults names args) faults)
 
   use_of_operator_case : (o : Option Op) (m : Option Meaning) (token : ℕ) (args : List Expression)
-      → ((x : Op) → o ≡ Some x → IsPlain x) → IfThere (IsGoodMeaning context kinds) m
+      → ((x : Op) → o ≡ Some x → IsPlain x) → IfSome m (IsGoodMeaning context kinds)
       → use_faults_of_operator names o (option_map (λ x. x.signature) m) token args ≡ []
       → AllByRecursion IsFineHere args → IsGood context kinds (use_of_operator scope o m token args)
   use_of_operator_case None m token args p g e all = use_of_meaning_case m token args g e all
   use_of_operator_case (Some o) m token args p g e all =
-      let parts : (known_or (nat_eq (operands_of o) (length args)) token ≡ []) × (plain_faults names args ≡ []) =
-      none_of (known_or (nat_eq (operands_of o) (length args)) token) (plain_faults names args) e in
+      let parts : (unknown_unless (nat_eq (operands_of o) (length args)) token ≡ []) × (plain_faults names args ≡ []) =
+      none_of (unknown_unless (nat_eq (operands_of o) (length args)) token) (plain_faults names args) e in
       good_operator context kinds o (p o refl) token (map (λ a. a.value scope) args)
       (length-map args (λ a. a.value scope)
       ∙ sym (equal (operands_of o) (length args) (known (nat_eq (operands_of o) (length args)) token parts.0)))
@@ -287,7 +283,7 @@ module _ (context : Context) (kinds : List OperandKind) (names : Names) (scope :
 
   use_case : (l : Option Local) (b : Option Bound) (o : Option Op) (m : Option Meaning) (token : ℕ)
       (args : List Expression) → AreFound (λ x y. MatchesLocal x y × IsGoodBound context kinds y) l b
-      → ((x : Op) → o ≡ Some x → IsPlain x) → IfThere (IsGoodMeaning context kinds) m
+      → ((x : Op) → o ≡ Some x → IsPlain x) → IfSome m (IsGoodMeaning context kinds)
       → use_faults_of_local names l o (option_map (λ x. x.signature) m) token args ≡ []
       → AllByRecursion IsFineHere args → IsGood context kinds (use_of_bound scope b o m token args)
   use_case None None o m token args f p g e all = use_of_operator_case o m token args p g e all
@@ -297,8 +293,8 @@ module _ (context : Context) (kinds : List OperandKind) (names : Names) (scope :
   use_case (Some (applied k)) (Some (argument v target)) o m token args f p g e all = absurd f.0
   use_case (Some (applied k)) (Some (operand number facts)) o m token args f p g e all = absurd f.0
   use_case (Some (applied k)) (Some (function n apply)) o m token args f p g e all =
-      let parts : (known_or (nat_eq k (length args)) token ≡ []) × (plain_faults names args ≡ []) =
-      none_of (known_or (nat_eq k (length args)) token) (plain_faults names args) e in
+      let parts : (unknown_unless (nat_eq k (length args)) token ≡ []) × (plain_faults names args ≡ []) =
+      none_of (unknown_unless (nat_eq k (length args)) token) (plain_faults names args) e in
       let here : n ≡ length args = f.0 ∙ equal k (length args) (known (nat_eq k (length args)) token parts.0) in
       subst (λ b. IsGood context kinds (if b then apply token (map (λ a. a.value scope) args) else faulty token))
       (sym (same n (length args) here))

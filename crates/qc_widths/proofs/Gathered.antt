@@ -12,28 +12,28 @@ use Rattle.qc_terms.specs.declared.term.Effect.{Effect}
 use Rattle.qc_terms.specs.declared.term.Term.{Term}
 use Rattle.qc_terms.specs.Tree.{tree_of, nodes_of}
 use Rattle.qc_descr.specs.Valid.{nodes_of_dest, nodes_of_guard}
-use Rattle.qc_text.specs.declared.number.Number.{Number}
+use Rattle.qc_grammar.specs.declared.cursor.Number.{Number}
 use Rattle.qc_widths.specs.declared.faults.WidthFault.{WidthFault}
 use Rattle.qc_widths.specs.declared.acts.Acts.TheVariants.{Huge, Known}
 use Rattle.qc_widths.specs.Effects.{act_of, act_on_memory, clashes_of_act, effect_of, guarded, joined}
-use Rattle.qc_widths.specs.Faults.{told, told_of_both}
+use Rattle.qc_widths.specs.Faults.{reported, reported_of_both, token_of, rank_of}
 use Rattle.qc_widths.specs.Numbers.{access_width}
 use Rattle.qc_widths.specs.Scopes.{Act}
 use Rattle.qc_widths.specs.Values as values
 use Rattle.qc_widths.specs.Values.{bits_of}
-use Rattle.qc_widths.specs.Evaluated.{nodes_in}
-use Rattle.qc_widths.specs.Kept.{seen_acts, nodes_in_acts, under, more_under, nodes_under}
-use Rattle.qc_widths.proofs.Told.{told-append, both_assoc}
+use Rattle.qc_widths.specs.Inner.KeptValues.{nodes_in}
+use Rattle.qc_widths.specs.Inner.KeptEffects.{seen_acts, nodes_in_acts, under, more_under, nodes_under}
+use Rattle.qc_names.specs.Law.Reported.{reported-append, both_assoc}
 use Rattle.qc_widths.proofs.Seen.{Parts, bin_nodes}
 
 pub record ActsParts (es : List Effect) (count : ℕ) (fault : Option WidthFault) (acts : List Act) : Type 0 where
   pub effects : es ≡ map effect_of acts
   pub nodes : count ≡ nodes_in_acts acts
   pub small : nodes_in_acts acts ≤ 4096
-  pub clash : fault ≡ told (flat_map clashes_of_act acts)
+  pub clash : fault ≡ reported (flat_map clashes_of_act acts)
 
 pub acts_small : (acts : List Act) → nodes_in_acts acts ≤ 4096
-    → seen_acts acts ≡ Known (map effect_of acts) (nodes_in_acts acts) (told (flat_map clashes_of_act acts))
+    → seen_acts acts ≡ Known (map effect_of acts) (nodes_in_acts acts) (reported (flat_map clashes_of_act acts))
 unfolding seen_acts
 acts_small acts small = grind arith
 
@@ -44,7 +44,7 @@ acts_large acts large = grind arith
 parts_small : (es : List Effect) (count : ℕ) (fault : Option WidthFault) (acts : List Act) → nodes_in_acts acts ≤ 4096
     → Known es count fault ≡ seen_acts acts → ActsParts es count fault acts
 parts_small es count fault acts small e =
-    let k : Known es count fault ≡ Known (map effect_of acts) (nodes_in_acts acts) (told (flat_map clashes_of_act acts))
+    let k : Known es count fault ≡ Known (map effect_of acts) (nodes_in_acts acts) (reported (flat_map clashes_of_act acts))
     = e ∙ acts_small acts small in
     record { effects = cc; nodes = cc; small = small; clash = cc }
 
@@ -58,43 +58,43 @@ acts_parts es count fault acts e = elim (cases_lt 4096 (nodes_in_acts acts)) [
 pub acts_huge : (acts : List Act) → Huge ≡ seen_acts acts → 4096 < nodes_in_acts acts
 acts_huge acts e = elim (cases_lt 4096 (nodes_in_acts acts)) [
   | inl large ↦ large
-  | inr small ↦ let k : Huge ≡ Known (map effect_of acts) (nodes_in_acts acts) (told (flat_map clashes_of_act acts)) = e ∙ acts_small acts small in absurd (cc)
+  | inr small ↦ let k : Huge ≡ Known (map effect_of acts) (nodes_in_acts acts) (reported (flat_map clashes_of_act acts)) = e ∙ acts_small acts small in absurd (cc)
 ]
 
 pub acts_known : (acts : List Act) (es : List Effect) (count : ℕ) (fault : Option WidthFault) → es ≡ map effect_of acts
-    → count ≡ nodes_in_acts acts → count ≤ 4096 → fault ≡ told (flat_map clashes_of_act acts) → Known es count fault ≡ seen_acts acts
+    → count ≡ nodes_in_acts acts → count ≤ 4096 → fault ≡ reported (flat_map clashes_of_act acts) → Known es count fault ≡ seen_acts acts
 acts_known acts es count fault e n small f =
     ap (λ x. Known x count fault) e ∙ ap (λ x. Known (map effect_of acts) x fault) n
     ∙ ap (λ x. Known (map effect_of acts) (nodes_in_acts acts) x) f ∙ sym (acts_small acts (omega arith))
 
--- what is told of one part of an effect
+-- what is reported of one part of an effect
 pub part_clash : (v : values.Value) (wanted : Option ℕ) (start : ℕ) (t : Term) (n : ℕ) (width : Option ℕ) (sound : Bool)
-    (clash own r : Option WidthFault) → Parts start t n width sound clash v → own ≡ told (values.mismatch start width wanted)
-    → r ≡ told_of_both clash own → r ≡ told (v.clashes ++ values.test v wanted)
+    (clash own r : Option WidthFault) → Parts start t n width sound clash v → own ≡ reported (values.mismatch start width wanted)
+    → r ≡ reported_of_both clash own → r ≡ reported (v.clashes ++ values.test v wanted)
 part_clash v wanted start t n width sound clash own r p o e =
-    e ∙ ap (λ x. told_of_both x own) p.clash
-    ∙ ap (λ x. told_of_both (told v.clashes) x) (o ∙ ap (λ x. told (values.mismatch x width wanted)) p.token
-    ∙ ap (λ x. told (values.mismatch v.token x wanted)) p.width) ∙ sym (told-append v.clashes (values.test v wanted))
+    e ∙ ap (λ x. reported_of_both x own) p.clash
+    ∙ ap (λ x. reported_of_both (reported v.clashes) x) (o ∙ ap (λ x. reported (values.mismatch x width wanted)) p.token
+    ∙ ap (λ x. reported (values.mismatch v.token x wanted)) p.width) ∙ sym (reported-append token_of rank_of v.clashes (values.test v wanted))
 
 pub one_nodes : (to : Dest) (v : values.Value) (wanted : Option ℕ) → nodes_of_dest to ≡ 0
     → nodes_in_acts (act_of to [] v wanted ∷ []) ≡ nodes_in v
 one_nodes to v wanted h = omega arith
 
-pub one_clash : (to : Dest) (v : values.Value) (wanted : Option ℕ) (r : Option WidthFault) → r ≡ told (v.clashes ++ values.test v wanted)
-    → r ≡ told (flat_map clashes_of_act (act_of to [] v wanted ∷ []))
-one_clash to v wanted r e = e ∙ ap told (sym (append-nil (v.clashes ++ values.test v wanted)))
+pub one_clash : (to : Dest) (v : values.Value) (wanted : Option ℕ) (r : Option WidthFault) → r ≡ reported (v.clashes ++ values.test v wanted)
+    → r ≡ reported (flat_map clashes_of_act (act_of to [] v wanted ∷ []))
+one_clash to v wanted r e = e ∙ ap reported (sym (append-nil (v.clashes ++ values.test v wanted)))
 
 pub word_nodes : (word : Option ℕ) (bits : Number) (u v : values.Value)
     → nodes_in_acts (act_on_memory word bits u v ∷ []) ≡ nodes_in u + nodes_in v
 word_nodes word bits u v = omega arith
 
 pub word_clash : (word : Option ℕ) (bits : Number) (u v : values.Value) (first second r : Option WidthFault)
-    → first ≡ told (u.clashes ++ values.test u word) → second ≡ told (v.clashes ++ values.test v (access_width word bits))
-    → r ≡ told_of_both first second → r ≡ told (flat_map clashes_of_act (act_on_memory word bits u v ∷ []))
+    → first ≡ reported (u.clashes ++ values.test u word) → second ≡ reported (v.clashes ++ values.test v (access_width word bits))
+    → r ≡ reported_of_both first second → r ≡ reported (flat_map clashes_of_act (act_on_memory word bits u v ∷ []))
 word_clash word bits u v first second r f s e =
-    e ∙ ap (λ x. told_of_both x second) f ∙ ap (λ x. told_of_both (told (u.clashes ++ values.test u word)) x) s
-    ∙ sym (told-append (u.clashes ++ values.test u word) (v.clashes ++ values.test v (access_width word bits)))
-    ∙ ap told (sym (append-nil ((u.clashes ++ values.test u word) ++ (v.clashes ++ values.test v (access_width word bits)))))
+    e ∙ ap (λ x. reported_of_both x second) f ∙ ap (λ x. reported_of_both (reported (u.clashes ++ values.test u word)) x) s
+    ∙ sym (reported-append token_of rank_of (u.clashes ++ values.test u word) (v.clashes ++ values.test v (access_width word bits)))
+    ∙ ap reported (sym (append-nil ((u.clashes ++ values.test u word) ++ (v.clashes ++ values.test v (access_width word bits)))))
 
 abbrev act_nodes : Act → ℕ
 act_nodes a = nodes_of_guard a.guard + (nodes_of_dest a.to + nodes_of (tree_of a.value))
@@ -111,10 +111,10 @@ nodes_append [] ys = omega arith
 nodes_append (x ∷ xs) ys = append_step (act_nodes x) (nodes_in_acts (x ∷ (xs ++ ys))) (nodes_in_acts (xs ++ ys)) (nodes_in_acts (x ∷ xs))
     (nodes_in_acts xs) (nodes_in_acts ys) (nodes_cons x (xs ++ ys)) (nodes_cons x xs) (nodes_append xs ys)
 
-pub clash_append : (xs ys : List Act) → told (flat_map clashes_of_act (xs ++ ys))
-    ≡ told_of_both (told (flat_map clashes_of_act xs)) (told (flat_map clashes_of_act ys))
-clash_append xs ys = ap told (flat_map-append clashes_of_act xs ys)
-    ∙ told-append (flat_map clashes_of_act xs) (flat_map clashes_of_act ys)
+pub clash_append : (xs ys : List Act) → reported (flat_map clashes_of_act (xs ++ ys))
+    ≡ reported_of_both (reported (flat_map clashes_of_act xs)) (reported (flat_map clashes_of_act ys))
+clash_append xs ys = ap reported (flat_map-append clashes_of_act xs ys)
+    ∙ reported-append token_of rank_of (flat_map clashes_of_act xs) (flat_map clashes_of_act ys)
 
 -- under a guard
 pub from_zero : (nodes guard : ℕ) (es : List Effect) → nodes_under nodes guard es ≡ nodes + nodes_under 0 guard es
@@ -152,37 +152,37 @@ pub guarded_effects : (g : values.Value) (acts : List Act) → map (under g.term
 guarded_effects g [] = refl
 guarded_effects g (a ∷ acts) = ap (λ l. effect_of (guarded g a) ∷ l) (guarded_effects g acts)
 
-both_absorb : (a b : Option WidthFault) → told_of_both (told_of_both a b) a ≡ told_of_both a b
+both_absorb : (a b : Option WidthFault) → reported_of_both (reported_of_both a b) a ≡ reported_of_both a b
 both_absorb None None = refl
 both_absorb None (Some g) = refl
 both_absorb (Some f) None = grind (arith, common_steps)
 both_absorb (Some f) (Some g) = grind (arith, common_steps)
 
--- the guard's clashes before those of each effect are told as before them all
-one_guarded : (g : values.Value) (a : Act) → told (clashes_of_act (guarded g a))
-    ≡ told_of_both (told (g.clashes ++ values.test g (Some 1))) (told (clashes_of_act a))
+-- the guard's clashes before those of each effect are reported as before them all
+one_guarded : (g : values.Value) (a : Act) → reported (clashes_of_act (guarded g a))
+    ≡ reported_of_both (reported (g.clashes ++ values.test g (Some 1))) (reported (clashes_of_act a))
 one_guarded g a =
     let gc = g.clashes ++ values.test g (Some 1) in
-    told-append (gc ++ a.guards) a.rest ∙ ap (λ x. told_of_both x (told a.rest)) (told-append gc a.guards)
-    ∙ both_assoc (told gc) (told a.guards) (told a.rest) ∙ ap (λ x. told_of_both (told gc) x) (sym (told-append a.guards a.rest))
+    reported-append token_of rank_of (gc ++ a.guards) a.rest ∙ ap (λ x. reported_of_both x (reported a.rest)) (reported-append token_of rank_of gc a.guards)
+    ∙ both_assoc token_of rank_of (reported gc) (reported a.guards) (reported a.rest) ∙ ap (λ x. reported_of_both (reported gc) x) (sym (reported-append token_of rank_of a.guards a.rest))
 
-join_guarded : (g a t u : Option WidthFault) → u ≡ told_of_both g t → told_of_both (told_of_both g a) u ≡ told_of_both g (told_of_both a t)
+join_guarded : (g a t u : Option WidthFault) → u ≡ reported_of_both g t → reported_of_both (reported_of_both g a) u ≡ reported_of_both g (reported_of_both a t)
 join_guarded g a t u e =
-    ap (λ x. told_of_both (told_of_both g a) x) e ∙ sym (both_assoc (told_of_both g a) g t)
-    ∙ ap (λ x. told_of_both x t) (both_absorb g a) ∙ both_assoc g a t
+    ap (λ x. reported_of_both (reported_of_both g a) x) e ∙ sym (both_assoc token_of rank_of (reported_of_both g a) g t)
+    ∙ ap (λ x. reported_of_both x t) (both_absorb g a) ∙ both_assoc token_of rank_of g a t
 
-pub guarded_clash : (g : values.Value) (a : Act) (acts : List Act) → told (flat_map clashes_of_act (map (guarded g) (a ∷ acts)))
-    ≡ told_of_both (told (g.clashes ++ values.test g (Some 1))) (told (flat_map clashes_of_act (a ∷ acts)))
+pub guarded_clash : (g : values.Value) (a : Act) (acts : List Act) → reported (flat_map clashes_of_act (map (guarded g) (a ∷ acts)))
+    ≡ reported_of_both (reported (g.clashes ++ values.test g (Some 1))) (reported (flat_map clashes_of_act (a ∷ acts)))
 guarded_clash g a [] =
-    ap told (append-nil (clashes_of_act (guarded g a))) ∙ one_guarded g a
-    ∙ ap (λ l. told_of_both (told (g.clashes ++ values.test g (Some 1))) (told l)) (sym (append-nil (clashes_of_act a)))
+    ap reported (append-nil (clashes_of_act (guarded g a))) ∙ one_guarded g a
+    ∙ ap (λ l. reported_of_both (reported (g.clashes ++ values.test g (Some 1))) (reported l)) (sym (append-nil (clashes_of_act a)))
 guarded_clash g a (b ∷ acts) =
-    let gc = told (g.clashes ++ values.test g (Some 1)) in
-    told-append (clashes_of_act (guarded g a)) (flat_map clashes_of_act (map (guarded g) (b ∷ acts)))
-    ∙ ap (λ x. told_of_both x (told (flat_map clashes_of_act (map (guarded g) (b ∷ acts))))) (one_guarded g a)
-    ∙ join_guarded gc (told (clashes_of_act a)) (told (flat_map clashes_of_act (b ∷ acts)))
-    (told (flat_map clashes_of_act (map (guarded g) (b ∷ acts)))) (guarded_clash g b acts)
-    ∙ ap (λ x. told_of_both gc x) (sym (told-append (clashes_of_act a) (flat_map clashes_of_act (b ∷ acts))))
+    let gc = reported (g.clashes ++ values.test g (Some 1)) in
+    reported-append token_of rank_of (clashes_of_act (guarded g a)) (flat_map clashes_of_act (map (guarded g) (b ∷ acts)))
+    ∙ ap (λ x. reported_of_both x (reported (flat_map clashes_of_act (map (guarded g) (b ∷ acts))))) (one_guarded g a)
+    ∙ join_guarded gc (reported (clashes_of_act a)) (reported (flat_map clashes_of_act (b ∷ acts)))
+    (reported (flat_map clashes_of_act (map (guarded g) (b ∷ acts)))) (guarded_clash g b acts)
+    ∙ ap (λ x. reported_of_both gc x) (sym (reported-append token_of rank_of (clashes_of_act a) (flat_map clashes_of_act (b ∷ acts))))
 
 none_left : (acts : List Act) → map effect_of acts ≡ [] → acts ≡ []
 none_left [] e = refl
@@ -207,12 +207,12 @@ huge_guard g (a ∷ acts) not h =
     (guarded_count g (a ∷ acts) ∙ from_zero (nodes_in_acts (a ∷ acts) + more_under (nodes_in g) a.guard) (nodes_in g) (map effect_of acts))
     (more_least (nodes_in g) a.guard) h
 
-pub told_guarded : (g : values.Value) (acts : List Act) (r own inner : Option WidthFault) → (map effect_of acts ≡ [] → ⊥)
-    → r ≡ told_of_both own inner → own ≡ told (g.clashes ++ values.test g (Some 1)) → inner ≡ told (flat_map clashes_of_act acts)
-    → r ≡ told (flat_map clashes_of_act (map (guarded g) acts))
-told_guarded g [] r own inner not e o i = absurd (not refl)
-told_guarded g (a ∷ acts) r own inner not e o i =
-    e ∙ ap (λ x. told_of_both x inner) o ∙ ap (λ x. told_of_both (told (g.clashes ++ values.test g (Some 1))) x) i
+pub reported_guarded : (g : values.Value) (acts : List Act) (r own inner : Option WidthFault) → (map effect_of acts ≡ [] → ⊥)
+    → r ≡ reported_of_both own inner → own ≡ reported (g.clashes ++ values.test g (Some 1)) → inner ≡ reported (flat_map clashes_of_act acts)
+    → r ≡ reported (flat_map clashes_of_act (map (guarded g) acts))
+reported_guarded g [] r own inner not e o i = absurd (not refl)
+reported_guarded g (a ∷ acts) r own inner not e o i =
+    e ∙ ap (λ x. reported_of_both x inner) o ∙ ap (λ x. reported_of_both (reported (g.clashes ++ values.test g (Some 1))) x) i
     ∙ sym (guarded_clash g a acts)
 
 -- a capped sum

@@ -1,16 +1,16 @@
 -- All functions and named effects of a text without faults are good.
-use Rattle.std.specs.Prelude.{ℕ, ◌≡◌, ◌≢◌, ◌+◌, Bool, true, false, cond, if◌then◌else◌, List, [], ◌∷◌, ◌++◌, length, map, Option, None, Some}
+use Rattle.std.specs.Prelude.{ℕ, ◌≡◌, ◌≢◌, ◌+◌, Bool, true, false, cond, if◌then◌else◌, List, [], ◌∷◌, ◌++◌, length, map, Option, None, Some, is_some}
 use Rattle.std.specs.List.{AllByRecursion, flat_map}
 use Rattle.std.specs.Str.{bytes_eq}
 use Rattle.std.proofs.Common.{refl, ap, sym, ◌∙◌, subst}
 use Rattle.std.proofs.lemmas.List.{length-map, map-append}
 use Rattle.std.proofs.lemmas.List.Elements.{All-from_recursion}
 use Rattle.std.proofs.lemmas.Slice.Eq.{bytes_eq-Decides}
-use Rattle.qc_names.specs.Tables.{is_there}
+use Rattle.qc_widths.specs.TextFaults.{params_faults, item_faults, faults_after}
 use Rattle.qc_terms.specs.State.{Context}
 use Rattle.qc_descr.specs.declared.description.OperandKind.{OperandKind}
-use Rattle.qc_descr.specs.Law.Bits.{each_append}
-use Rattle.qc_text.specs.declared.cursor.Ident.{Ident}
+use Rattle.qc_lists.specs.Law.Lists.{each_append}
+use Rattle.qc_grammar.specs.declared.cursor.Ident.{Ident}
 use Rattle.qc_lrtl.specs.declared.syntax.Expr.{Expr}
 use Rattle.qc_lrtl.specs.declared.syntax.Effect.{Effect}
 use Rattle.qc_lrtl.specs.declared.syntax.Param.{Param}
@@ -20,8 +20,7 @@ use Rattle.qc_widths.specs.Scopes.{Bound, argument, operand, function, Facts, Si
 use Rattle.qc_widths.specs.Expressions.{faults_in}
 use Rattle.qc_widths.specs.Effects.{acts_of, effect_faults, effect_targets}
 use Rattle.qc_widths.specs.Declarations.{arity_of, local_of_arity, locals_of_params, bound_params, names_for, scope_for, targets_of_param, signature_of_item, signatures_of, meaning_of_function, meaning_of_effects, meaning_of_item, meanings_after, instruction_name, space_name}
-use Rattle.qc_widths.specs.Machine.{params_faults, item_faults, faults_after}
-use Rattle.qc_widths.specs.Typed.{IsComplete, IsGoodBound, SuitsParam, SuitParams, IsGoodMeaning, IsGoodScope, MatchesLocal, MatchLocals, TellsEvents, IsGoodAct}
+use Rattle.qc_widths.proofs.Typed.{IsComplete, IsGoodBound, SuitsParam, SuitParams, IsGoodMeaning, IsGoodScope, MatchesLocal, MatchLocals, TellsEvents, IsGoodAct}
 use Rattle.qc_widths.proofs.TypedNodes.{none_of}
 use Rattle.qc_widths.proofs.Typing.{fine}
 use Rattle.qc_widths.proofs.TypedActs.{IsThere, good_effects}
@@ -36,7 +35,7 @@ same_params (p ∷ params) [] n = cc n
 same_params (p ∷ params) (b ∷ bounds) n = (refl, same_params params bounds (cc n))
 
 module _ (context : Context) where
-  -- it is good for whatever operands an instruction has, and shows as many things as is told of it
+  -- it is good for whatever operands an instruction has, and shows as many things as is known of it
   pub record IsSettled (m : Meaning) : Type 0 where
     pub good : (kinds : List OperandKind) → IsGoodMeaning context kinds m
     pub tells : TellsEvents m
@@ -130,7 +129,7 @@ module _ (context : Context) where
             there_one (arity_of p) (targets_of_param names body p) b suit.0
             (λ plain none. some
             (subst (λ n. flat_map (effect_targets names n) body ≡ []) ((bytes_eq-Decides p.name.text name).0 is)
-            (subst (λ a. (if is_there a then [] else flat_map (effect_targets names p.name.text) body) ≡ []) plain none)))
+            (subst (λ a. (if is_some a then [] else flat_map (effect_targets names p.name.text) body) ≡ []) plain none)))
 
   settled_function : (facts : Facts) → IsComplete facts context → (earlier : List Meaning)
       → AllByRecursion IsSettled earlier → (name : Ident) (params : List Param) (body : Expr)
@@ -197,37 +196,12 @@ module _ (context : Context) where
       none_of (params_faults params)
       (flat_map (effect_faults (names_for facts (signatures_of earlier) (locals_of_params params))) body) none in
       (settled_effects facts complete earlier all name params body parts.1, tt)
-  settled_item facts complete earlier whole all instructions spaces (fact.Word token bits) none = tt
-  settled_item facts complete earlier whole all instructions spaces (fact.ByteOrder token order) none = tt
-  settled_item facts complete earlier whole all instructions spaces (fact.Align token bytes) none = tt
-  settled_item facts complete earlier whole all instructions spaces (fact.SlotBits token bits) none = tt
-  settled_item facts complete earlier whole all instructions spaces (fact.Memory token bytes) none = tt
-  settled_item facts complete earlier whole all instructions spaces (fact.Code token end) none = tt
-  settled_item facts complete earlier whole all instructions spaces (fact.Data token end) none = tt
-  settled_item facts complete earlier whole all instructions spaces (fact.Space token name cells bits flags) none = tt
-  settled_item facts complete earlier whole all instructions spaces (fact.Zero token space cell) none = tt
-  settled_item facts complete earlier whole all instructions spaces (fact.Frame token space cell) none = tt
-  settled_item facts complete earlier whole all instructions spaces (fact.Link token space cell) none = tt
-  settled_item facts complete earlier whole all instructions spaces (fact.Allocatable token space first last) none = tt
-  settled_item facts complete earlier whole all instructions spaces (fact.Instruction token name operands body) none = tt
+  settled_item facts complete earlier whole all instructions spaces _ none = tt
 
   signatures_are : (facts : Facts) (earlier : List Meaning) (item : Item)
       → signatures_of (meaning_of_item facts earlier item) ≡ signature_of_item facts (signatures_of earlier) item
   signatures_are facts earlier (fact.Function token name params body) = refl
-  signatures_are facts earlier (fact.Effects token name params body) = refl
-  signatures_are facts earlier (fact.Word token bits) = refl
-  signatures_are facts earlier (fact.ByteOrder token order) = refl
-  signatures_are facts earlier (fact.Align token bytes) = refl
-  signatures_are facts earlier (fact.SlotBits token bits) = refl
-  signatures_are facts earlier (fact.Memory token bytes) = refl
-  signatures_are facts earlier (fact.Code token end) = refl
-  signatures_are facts earlier (fact.Data token end) = refl
-  signatures_are facts earlier (fact.Space token name cells bits flags) = refl
-  signatures_are facts earlier (fact.Zero token space cell) = refl
-  signatures_are facts earlier (fact.Frame token space cell) = refl
-  signatures_are facts earlier (fact.Link token space cell) = refl
-  signatures_are facts earlier (fact.Allocatable token space first last) = refl
-  signatures_are facts earlier (fact.Instruction token name operands body) = refl
+  signatures_are facts earlier _ = refl
 
   pub settled : (facts : Facts) → IsComplete facts context → (whole : List Meaning) (items : List Item)
       (earlier : List Meaning) (instructions spaces : ℕ) → AllByRecursion IsSettled earlier

@@ -4,6 +4,7 @@ use Rattle.std.specs.List.{flat_map}
 use Rattle.std.proofs.Common.{refl, ap, sym, ◌∙◌, arith, append_assoc, length-append, length-take-le}
 use Rattle.std.proofs.Math.Seq.{take-append_seam}
 use Rattle.std.proofs.lemmas.List.{append-nil}
+use Rattle.qc_widths.specs.TextFaults.{repeated, kind_faults, acts_of_instruction, limit_faults, clashes_within, instruction_faults, faults_after}
 use Rattle.qc_lrtl.specs.declared.syntax.Item.{Item}
 use Rattle.qc_lrtl.specs.declared.syntax.Item.TheVariants as fact
 use Rattle.qc_lrtl.specs.declared.syntax.Effect.{Effect}
@@ -13,28 +14,27 @@ use Rattle.qc_widths.specs.declared.context.Context.{Context}
 use Rattle.qc_widths.specs.declared.progress.Progress.{Progress}
 use Rattle.qc_widths.specs.declared.faults.WidthFault.{WidthFault}
 use Rattle.qc_widths.specs.declared.faults.WidthFault.TheVariants.{TwiceNamed}
-use Rattle.qc_widths.specs.Faults.{told_of_two, told_of_both, told}
+use Rattle.qc_widths.specs.Faults.{reported_of_two, reported_of_both, reported, token_of, rank_of}
 use Rattle.qc_widths.specs.Scopes.{Facts, Names, Signature}
 use Rattle.qc_widths.specs.Effects.{effect_faults, effect_events}
 use Rattle.qc_widths.specs.Declarations.{function_name, instruction_name, space_name, signature_of_item, signatures_after, meanings_in, locals_of_operands, names_for}
-use Rattle.qc_widths.specs.Machine.{faults_after, repeated, kind_faults, limit_faults, clashes_within, acts_of_instruction, instruction_faults}
-use Rattle.qc_widths.specs.Elaboration.{names_of_operands, all_signatures, counts_behind, faults_of_item, faults_behind, operations_of_item, OperationsUnless, IsBehind}
+use Rattle.qc_widths.specs.Inner.Elaboration.{names_of_operands, all_signatures, counts_behind, faults_of_item, faults_behind, operations_of_item, OperationsUnless, IsBehind}
 use Rattle.qc_widths.proofs.Earlier.{signatures-length, signatures-of-meanings}
-use Rattle.qc_widths.proofs.Told.{told-append, both_assoc}
+use Rattle.qc_names.specs.Law.Reported.{reported-append, both_assoc}
 
--- five lists, of which two are told together
-pub five_told : (k r a b l : List WidthFault) (kinds names effects limit : Option WidthFault) → kinds ≡ told k →
-    names ≡ told r → effects ≡ told (a ++ b) → limit ≡ told l →
-    told_of_both kinds (told_of_both names (told_of_both effects limit)) ≡ told (k ++ (r ++ (a ++ (b ++ l))))
-five_told k r a b l kinds names effects limit ks rs es ls =
-    ap (λ x. told_of_both x (told_of_both names (told_of_both effects limit))) ks
-    ∙ ap (λ x. told_of_both (told k) (told_of_both x (told_of_both effects limit))) rs
-    ∙ ap (λ x. told_of_both (told k) (told_of_both (told r) (told_of_both x limit))) es
-    ∙ ap (λ x. told_of_both (told k) (told_of_both (told r) (told_of_both (told (a ++ b)) x))) ls
-    ∙ ap (λ x. told_of_both (told k) (told_of_both (told r) x)) (sym (told-append (a ++ b) l)
-    ∙ ap told (append_assoc a b l))
-    ∙ ap (told_of_both (told k)) (sym (told-append r (a ++ (b ++ l))))
-    ∙ sym (told-append k (r ++ (a ++ (b ++ l))))
+-- five lists, of which two are reported together
+pub five_reported : (k r a b l : List WidthFault) (kinds names effects limit : Option WidthFault) → kinds ≡ reported k →
+    names ≡ reported r → effects ≡ reported (a ++ b) → limit ≡ reported l →
+    reported_of_both kinds (reported_of_both names (reported_of_both effects limit)) ≡ reported (k ++ (r ++ (a ++ (b ++ l))))
+five_reported k r a b l kinds names effects limit ks rs es ls =
+    ap (λ x. reported_of_both x (reported_of_both names (reported_of_both effects limit))) ks
+    ∙ ap (λ x. reported_of_both (reported k) (reported_of_both x (reported_of_both effects limit))) rs
+    ∙ ap (λ x. reported_of_both (reported k) (reported_of_both (reported r) (reported_of_both x limit))) es
+    ∙ ap (λ x. reported_of_both (reported k) (reported_of_both (reported r) (reported_of_both (reported (a ++ b)) x))) ls
+    ∙ ap (λ x. reported_of_both (reported k) (reported_of_both (reported r) x)) (sym (reported-append token_of rank_of (a ++ b) l)
+    ∙ ap reported (append_assoc a b l))
+    ∙ ap (reported_of_both (reported k)) (sym (reported-append token_of rank_of r (a ++ (b ++ l))))
+    ∙ sym (reported-append token_of rank_of k (r ++ (a ++ (b ++ l))))
 
 names_are : (t : Context) (operands : List Operand) → names_of_operands t operands
     ≡ names_for t.facts.now (map (λ m. m.signature) (meanings_in t.facts.now t.items.now)) (locals_of_operands operands)
@@ -43,24 +43,24 @@ names_are t operands =
     ap (λ s. names_for t.facts.now s (locals_of_operands operands))
     (sym (signatures-of-meanings t.facts.now t.items.now))
 
--- what is told of an instruction, by its parts
-pub instruction_told : (t : Context) (number token : ℕ) (operands : List Operand) (body : List Effect)
+-- what is reported of an instruction, by its parts
+pub instruction_reported : (t : Context) (number token : ℕ) (operands : List Operand) (body : List Effect)
     (kinds names effects limit : Option WidthFault) →
-    kinds ≡ told (flat_map (λ o. kind_faults t.facts.now o.kind) operands) →
-    names ≡ told (repeated (map (λ o. o.name) operands)) →
-    effects ≡ told (flat_map (effect_faults (names_of_operands t operands)) body
+    kinds ≡ reported (flat_map (λ o. kind_faults t.facts.now o.kind) operands) →
+    names ≡ reported (repeated (map (λ o. o.name) operands)) →
+    effects ≡ reported (flat_map (effect_faults (names_of_operands t operands)) body
     ++ map TwiceNamed (drop 1 (flat_map (effect_events (names_of_operands t operands)) body))) →
-    limit ≡ told (limit_faults number token operands (acts_of_instruction t.facts.now (meanings_in t.facts.now
+    limit ≡ reported (limit_faults number token operands (acts_of_instruction t.facts.now (meanings_in t.facts.now
     t.items.now) operands body)
     ++ clashes_within (limit_faults number token operands (acts_of_instruction t.facts.now (meanings_in t.facts.now
     t.items.now) operands body))
     (acts_of_instruction t.facts.now (meanings_in t.facts.now t.items.now) operands body)) →
-    told_of_both kinds (told_of_both names (told_of_both effects limit))
-    ≡ told (instruction_faults t.facts.now (meanings_in t.facts.now t.items.now) number token operands body)
-instruction_told t number token operands body kinds names effects limit ks rs es ls =
+    reported_of_both kinds (reported_of_both names (reported_of_both effects limit))
+    ≡ reported (instruction_faults t.facts.now (meanings_in t.facts.now t.items.now) number token operands body)
+instruction_reported t number token operands body kinds names effects limit ks rs es ls =
     let declared : Names = names_for t.facts.now (map (λ m. m.signature) (meanings_in t.facts.now t.items.now))
     (locals_of_operands operands) in
-    five_told (flat_map (λ o. kind_faults t.facts.now o.kind) operands) (repeated (map (λ o. o.name) operands))
+    five_reported (flat_map (λ o. kind_faults t.facts.now o.kind) operands) (repeated (map (λ o. o.name) operands))
     (flat_map (effect_faults declared) body) (map TwiceNamed (drop 1 (flat_map (effect_events declared) body)))
     (limit_faults number token operands (acts_of_instruction t.facts.now (meanings_in t.facts.now t.items.now)
     operands body)
@@ -68,16 +68,16 @@ instruction_told t number token operands body kinds names effects limit ks rs es
     t.items.now) operands body))
     (acts_of_instruction t.facts.now (meanings_in t.facts.now t.items.now) operands body))
     kinds names effects limit ks rs
-    (es ∙ ap (λ n. told (flat_map (effect_faults n) body ++ map TwiceNamed (drop 1 (flat_map (effect_events n)
+    (es ∙ ap (λ n. reported (flat_map (effect_faults n) body ++ map TwiceNamed (drop 1 (flat_map (effect_events n)
     body)))) (names_are t operands))
     ls
 
 -- the same of a fault
-pub instruction_fault_told : (kinds names effects limit inner outer fault : Option WidthFault) →
-    inner ≡ told_of_both effects limit → outer ≡ told_of_both names inner → fault ≡ told_of_both kinds outer →
-    fault ≡ told_of_both kinds (told_of_both names (told_of_both effects limit))
-instruction_fault_told kinds names effects limit inner outer fault a b c =
-    c ∙ ap (told_of_both kinds) (b ∙ ap (told_of_both names) a)
+pub instruction_fault_reported : (kinds names effects limit inner outer fault : Option WidthFault) →
+    inner ≡ reported_of_both effects limit → outer ≡ reported_of_both names inner → fault ≡ reported_of_both kinds outer →
+    fault ≡ reported_of_both kinds (reported_of_both names (reported_of_both effects limit))
+instruction_fault_reported kinds names effects limit inner outer fault a b c =
+    c ∙ ap (reported_of_both kinds) (b ∙ ap (reported_of_both names) a)
 
 -- What is behind no item, and behind one more.
 pub behind-none : (t : Context) (operations : List Operation) → operations ≡ [] →
@@ -138,19 +138,19 @@ next-level facts all level item rest within is =
     }
 
 operations-next : (before after more : Option WidthFault) (kept left own rest all : List Operation) →
-    after ≡ told_of_both before more → OperationsUnless before (kept ++ (own ++ rest)) all →
+    after ≡ reported_of_both before more → OperationsUnless before (kept ++ (own ++ rest)) all →
     OperationsUnless after left (kept ++ own) → OperationsUnless after (left ++ rest) all
 operations-next before (Some f) more kept left own rest all is old new = tt
 operations-next None None more kept left own rest all is old new =
     ap (λ ops. ops ++ rest) new ∙ append_assoc kept own rest ∙ old
 operations-next (Some g) None more kept left own rest all is old new = absurd (none_some is)
   where
-    none_some : None ≡ Some (told_of_two g more) → ⊥
+    none_some : None ≡ Some (reported_of_two g more) → ⊥
     none_some h = cc
 
 pub behind-next : (t : Context) (before after : Progress) (item : Item) (rest : List Item) →
     IsBehind t before (item ∷ rest) → after.counts ≡ counts_behind before.counts item →
-    after.fault ≡ told_of_both before.fault (told (faults_of_item t before.counts item)) →
+    after.fault ≡ reported_of_both before.fault (reported (faults_of_item t before.counts item)) →
     OperationsUnless after.fault after.operations (before.operations ++ operations_of_item t item) →
     IsBehind t after rest
 behind-next t before after item rest behind counts fault operations =
@@ -163,18 +163,18 @@ behind-next t before after item rest behind counts fault operations =
       signatures = ap (λ n. signatures_after t.facts.now (take n all) rest) level
           ∙ ap (λ s. signatures_after t.facts.now s rest) next.taken ∙ behind.signatures;
       fault =
-          ap (λ c. told_of_both after.fault (told (faults_behind t c rest))) counts
-          ∙ ap (λ f. told_of_both f (told (faults_behind t (counts_behind before.counts item) rest))) fault
-          ∙ both_assoc before.fault (told (faults_of_item t before.counts item)) (told (faults_behind t
+          ap (λ c. reported_of_both after.fault (reported (faults_behind t c rest))) counts
+          ∙ ap (λ f. reported_of_both f (reported (faults_behind t (counts_behind before.counts item) rest))) fault
+          ∙ both_assoc token_of rank_of before.fault (reported (faults_of_item t before.counts item)) (reported (faults_behind t
           (counts_behind before.counts item) rest))
-          ∙ ap (told_of_both before.fault) (sym (told-append (faults_of_item t before.counts item)
+          ∙ ap (reported_of_both before.fault) (sym (reported-append token_of rank_of (faults_of_item t before.counts item)
           (faults_behind t (counts_behind before.counts item) rest)))
-          ∙ ap (λ s. told_of_both before.fault (told (faults_of_item t before.counts item
+          ∙ ap (λ s. reported_of_both before.fault (reported (faults_of_item t before.counts item
           ++ faults_after t.facts.now (meanings_in t.facts.now t.items.now) s
           (before.counts.instructions + length (instruction_name item))
           (before.counts.spaces + length (space_name item)) rest))) next.taken
           ∙ behind.fault;
-      operations = operations-next before.fault after.fault (told (faults_of_item t before.counts item))
+      operations = operations-next before.fault after.fault (reported (faults_of_item t before.counts item))
           before.operations
           after.operations (operations_of_item t item) (flat_map (operations_of_item t) rest)
           (flat_map (operations_of_item t) t.items.now) fault behind.operations operations;

@@ -1,17 +1,23 @@
 -- A text without faults means what a description can be made of.
-use Rattle.std.specs.Prelude.{ℕ, suc, ◌≡◌, ◌≤◌, ◌<◌, ◌+◌, nat_lt, if◌then◌else◌, List, [], ◌∷◌, ◌++◌, length, map, drop, slice_index, All, Option, None, Some, IfSome}
+use Rattle.std.specs.Prelude.{ℕ, suc, ◌≡◌, ◌≤◌, ◌<◌, ◌+◌, nat_lt, if◌then◌else◌, List, [], ◌∷◌, ◌++◌, length, map, drop, slice_index, All, Option, None, Some, IfSome, is_some}
 use Rattle.std.specs.List.{AllByRecursion, flat_map}
 use Rattle.std.proofs.Common.{refl, ap, sym, ◌∙◌, subst, arith}
+use Rattle.std.proofs.lemmas.Option.{IfSome_then}
 use Rattle.std.proofs.lemmas.Grind.{common_steps}
 use Rattle.std.proofs.lemmas.List.{length-append, length-map, map-append}
-use Rattle.std.proofs.lemmas.List.Elements.{All-from_recursion}
+use Rattle.std.proofs.lemmas.List.Elements.{All-from_recursion, recursion_from_All}
+use Rattle.qc_widths.specs.TextFaults.{more_than}
+use Rattle.qc_widths.specs.TextFaults.{repeated_after, repeated, single_item, second_singles, second_declarations, kind_faults, acts_of_instruction, rtl_of, limit_faults, clashes_within, instruction_faults, item_faults, faults_after, faults_of}
+use Rattle.qc_widths.specs.GivenFacts.{first_given, space_index, given_cell, word_given, zero_given, frame_given, link_given, allocatable_given, given_in}
+use Rattle.std.specs.Option.{option_or, option_flatten}
 use Rattle.qc_terms.specs.State.{Context}
 use Rattle.qc_descr.specs.declared.description.OperandKind.{OperandKind}
 use Rattle.qc_descr.specs.declared.description.Space.{Space}
-use Rattle.qc_descr.specs.Law.Bits.{each_append}
-use Rattle.qc_descr.specs.Parts.{width_or_32, word_of, context_of_parts, IsCellOf, HasSpace, AreDistinct, IsOperation, AreParts}
-use Rattle.qc_text.specs.declared.cursor.Ident.{Ident}
-use Rattle.qc_text.specs.declared.number.Number.{Number}
+use Rattle.qc_lists.specs.Law.Lists.{each_append}
+use Rattle.qc_descr.specs.Names.{AreDistinct, IsName}
+use Rattle.qc_descr.specs.Parts.{width_or_32, word_of, context_of_parts, IsCellOf, HasSpace, IsOperation, AreParts}
+use Rattle.qc_grammar.specs.declared.cursor.Ident.{Ident}
+use Rattle.qc_grammar.specs.declared.cursor.Number.{Number}
 use Rattle.qc_lrtl.specs.declared.syntax.Effect.{Effect}
 use Rattle.qc_lrtl.specs.declared.syntax.Operand.{Operand}
 use Rattle.qc_lrtl.specs.declared.syntax.OperandKind as raw
@@ -22,7 +28,7 @@ use Rattle.qc_lrtl.specs.declared.syntax.RawMachine.{RawMachine}
 use Rattle.qc_widths.specs.declared.facts.SpaceFacts.{SpaceFacts}
 use Rattle.qc_widths.specs.declared.faults.WidthFault.{WidthFault}
 use Rattle.qc_widths.specs.declared.faults.WidthFault.TheVariants.{TwiceNamed, UnknownName}
-use Rattle.qc_widths.specs.Faults.{told}
+use Rattle.qc_widths.specs.Faults.{reported, unknown_unless}
 use Rattle.qc_widths.specs.Numbers.{width_in, width_faults}
 use Rattle.qc_widths.specs.Values.{bits_of}
 use Rattle.qc_widths.specs.Scopes.{Facts, Signature, Meaning, Act, Names, space_named, number_faults, cell_faults, operators}
@@ -30,12 +36,14 @@ use Rattle.qc_widths.specs.Effects.{effect_of, effect_faults, effect_events}
 use Rattle.qc_descr.specs.Valid.{EffectNames, nodes_of_rtl}
 use Rattle.qc_terms.specs.Typing.{IsTypedRtl}
 use Rattle.qc_widths.specs.Declarations.{word_in, space_of_item, spaces_in, facts_in, facts_of_operand, register_of, locals_of_operands, names_for, signatures_of, signature_of_item, meanings_in, instruction_name, space_name, function_name}
-use Rattle.qc_widths.specs.Machine.{repeated_after, repeated, second_names, single_item, more_than, limit_faults, clashes_within, instruction_faults, known_or, kind_faults, kind_of, space_of, space_index, given_cell, acts_of_instruction, rtl_of, item_faults, faults_after, faults_of, first_of, first_given, flat, word_given, frame_given, link_given, zero_given, allocatable_given, given_in, operation_of_item, machine_of}
-use Rattle.qc_widths.specs.Typed.{IsComplete}
+use Rattle.qc_widths.specs.Machine.{kind_of, space_of, operation_of_item, machine_of}
+use Rattle.qc_widths.proofs.Typed.{IsComplete}
 use Rattle.qc_widths.proofs.TypedNodes.{none_of, is_width}
 use Rattle.qc_widths.proofs.TypedRegisters.{IsSpace, found_space}
 use Rattle.qc_widths.proofs.TypedOperations.{IsTypedOperation, kinds_in}
-use Rattle.qc_widths.proofs.Complete.{nothing_told, IsFaultless, faultless, context_in, complete, IsTypedItem, typed_text}
+use Rattle.qc_widths.proofs.Complete.{nothing_reported, IsFaultless, faultless, context_in, complete, IsTypedItem, typed_text}
+use Rattle.qc_lrtl.specs.Named.{AreNamed, IsNamedItem}
+use Rattle.qc_widths.proofs.Naming.{is_name, named_operands, named_spaces, operand_of}
 use Rattle.qc_widths.proofs.Counts.{within_limit, distinct, texts, names_of_spaces}
 
 -- what an instruction without faults keeps of its limits, its operands' kinds and their names
@@ -96,41 +104,16 @@ few_items facts whole (item ∷ items) earlier instructions spaces none i s =
     of_item (fact.Instruction token name operands body) e i s =
         let limits = limits_of facts whole instructions token operands body e in
         (omega (arith, within_limit 256 token (suc instructions) limits.0), omega (arith, s))
-    of_item (fact.Word token bits) e i s = (omega (arith, i), omega (arith, s))
-    of_item (fact.ByteOrder token order) e i s = (omega (arith, i), omega (arith, s))
-    of_item (fact.Align token bytes) e i s = (omega (arith, i), omega (arith, s))
-    of_item (fact.SlotBits token bits) e i s = (omega (arith, i), omega (arith, s))
-    of_item (fact.Memory token bytes) e i s = (omega (arith, i), omega (arith, s))
-    of_item (fact.Code token end) e i s = (omega (arith, i), omega (arith, s))
-    of_item (fact.Data token end) e i s = (omega (arith, i), omega (arith, s))
-    of_item (fact.Zero token space cell) e i s = (omega (arith, i), omega (arith, s))
-    of_item (fact.Frame token space cell) e i s = (omega (arith, i), omega (arith, s))
-    of_item (fact.Link token space cell) e i s = (omega (arith, i), omega (arith, s))
-    of_item (fact.Allocatable token space first last) e i s = (omega (arith, i), omega (arith, s))
-    of_item (fact.Function token name params body) e i s = (omega (arith, i), omega (arith, s))
-    of_item (fact.Effects token name params body) e i s = (omega (arith, i), omega (arith, s))
+    of_item _ e i s = (omega (arith, i), omega (arith, s))
 
 -- the width that is given, or 32, is that of words
 word_is : (facts : Facts) (whole : List Meaning) (items : List Item) → AllByRecursion (IsFaultless facts whole) items
-    → width_or_32 (flat (first_given word_given items)) ≡ bits_of (word_in items)
+    → width_or_32 (option_flatten (first_given word_given items)) ≡ bits_of (word_in items)
 word_is facts whole [] all = refl
 word_is facts whole (fact.Word token bits ∷ items) all =
     let width : (width_in bits ≡ Some bits.value) × (1 ≤ bits.value) × (bits.value ≤ 64) = is_width bits all.0.none in
     ap width_or_32 width.0 ∙ sym (ap bits_of width.0)
-word_is facts whole (fact.ByteOrder token order ∷ items) all = word_is facts whole items all.1
-word_is facts whole (fact.Align token bytes ∷ items) all = word_is facts whole items all.1
-word_is facts whole (fact.SlotBits token bits ∷ items) all = word_is facts whole items all.1
-word_is facts whole (fact.Memory token bytes ∷ items) all = word_is facts whole items all.1
-word_is facts whole (fact.Code token end ∷ items) all = word_is facts whole items all.1
-word_is facts whole (fact.Data token end ∷ items) all = word_is facts whole items all.1
-word_is facts whole (fact.Space token name cells bits flags ∷ items) all = word_is facts whole items all.1
-word_is facts whole (fact.Zero token space cell ∷ items) all = word_is facts whole items all.1
-word_is facts whole (fact.Frame token space cell ∷ items) all = word_is facts whole items all.1
-word_is facts whole (fact.Link token space cell ∷ items) all = word_is facts whole items all.1
-word_is facts whole (fact.Allocatable token space first last ∷ items) all = word_is facts whole items all.1
-word_is facts whole (fact.Function token name params body ∷ items) all = word_is facts whole items all.1
-word_is facts whole (fact.Effects token name params body ∷ items) all = word_is facts whole items all.1
-word_is facts whole (fact.Instruction token name operands body ∷ items) all = word_is facts whole items all.1
+word_is facts whole (_ ∷ items) all = word_is facts whole items all.1
 
 -- what the spaces of facts are
 abbrev pub spaces_of : Facts → List Space
@@ -183,63 +166,24 @@ module _ (items : List Item) (whole : List Meaning) (all : AllByRecursion (IsFau
   first_is {A = A} f P (item ∷ rest) rest_all each =
       or_else (f item) (first_given f rest) (each item rest_all.0) (first_is f P rest rest_all.1 each)
     where
-      or_else : (o other : Option A) → IfSome o P → IfSome other P → IfSome (first_of o other) P
+      or_else : (o other : Option A) → IfSome o P → IfSome other P → IfSome (option_or o other) P
       or_else None other p q = q
       or_else (Some x) other p q = p
 
   frame_is : (item : Item) → IsFaultless (facts_in items) whole item
       → IfSome (frame_given (facts_in items) item) (IsCellOf (spaces_of (facts_in items)))
   frame_is (fact.Frame token space cell) is = cell_of space cell is.none
-  frame_is (fact.Word token bits) is = tt
-  frame_is (fact.ByteOrder token order) is = tt
-  frame_is (fact.Align token bytes) is = tt
-  frame_is (fact.SlotBits token bits) is = tt
-  frame_is (fact.Memory token bytes) is = tt
-  frame_is (fact.Code token end) is = tt
-  frame_is (fact.Data token end) is = tt
-  frame_is (fact.Space token name cells bits flags) is = tt
-  frame_is (fact.Zero token space cell) is = tt
-  frame_is (fact.Link token space cell) is = tt
-  frame_is (fact.Allocatable token space first last) is = tt
-  frame_is (fact.Function token name params body) is = tt
-  frame_is (fact.Effects token name params body) is = tt
-  frame_is (fact.Instruction token name operands body) is = tt
+  frame_is _ is = tt
 
   link_is : (item : Item) → IsFaultless (facts_in items) whole item
       → IfSome (link_given (facts_in items) item) (IsCellOf (spaces_of (facts_in items)))
   link_is (fact.Link token space cell) is = cell_of space cell is.none
-  link_is (fact.Word token bits) is = tt
-  link_is (fact.ByteOrder token order) is = tt
-  link_is (fact.Align token bytes) is = tt
-  link_is (fact.SlotBits token bits) is = tt
-  link_is (fact.Memory token bytes) is = tt
-  link_is (fact.Code token end) is = tt
-  link_is (fact.Data token end) is = tt
-  link_is (fact.Space token name cells bits flags) is = tt
-  link_is (fact.Zero token space cell) is = tt
-  link_is (fact.Frame token space cell) is = tt
-  link_is (fact.Allocatable token space first last) is = tt
-  link_is (fact.Function token name params body) is = tt
-  link_is (fact.Effects token name params body) is = tt
-  link_is (fact.Instruction token name operands body) is = tt
+  link_is _ is = tt
 
   zero_is : (item : Item) → IsFaultless (facts_in items) whole item
       → IfSome (zero_given (facts_in items) item) (IsCellOf (spaces_of (facts_in items)))
   zero_is (fact.Zero token space cell) is = cell_of space cell is.none
-  zero_is (fact.Word token bits) is = tt
-  zero_is (fact.ByteOrder token order) is = tt
-  zero_is (fact.Align token bytes) is = tt
-  zero_is (fact.SlotBits token bits) is = tt
-  zero_is (fact.Memory token bytes) is = tt
-  zero_is (fact.Code token end) is = tt
-  zero_is (fact.Data token end) is = tt
-  zero_is (fact.Space token name cells bits flags) is = tt
-  zero_is (fact.Frame token space cell) is = tt
-  zero_is (fact.Link token space cell) is = tt
-  zero_is (fact.Allocatable token space first last) is = tt
-  zero_is (fact.Function token name params body) is = tt
-  zero_is (fact.Effects token name params body) is = tt
-  zero_is (fact.Instruction token name operands body) is = tt
+  zero_is _ is = tt
 
   allocatable_is : (item : Item) → IsFaultless (facts_in items) whole item
       → IfSome (allocatable_given (facts_in items) item)
@@ -248,20 +192,7 @@ module _ (items : List Item) (whole : List Meaning) (all : AllByRecursion (IsFau
       let parts : (cell_faults (facts_in items) space first ≡ []) × (cell_faults (facts_in items) space last ≡ []) =
       none_of (cell_faults (facts_in items) space first) (cell_faults (facts_in items) space last) is.none in
       (cell_of space first parts.0, cell_of space last parts.1)
-  allocatable_is (fact.Word token bits) is = tt
-  allocatable_is (fact.ByteOrder token order) is = tt
-  allocatable_is (fact.Align token bytes) is = tt
-  allocatable_is (fact.SlotBits token bits) is = tt
-  allocatable_is (fact.Memory token bytes) is = tt
-  allocatable_is (fact.Code token end) is = tt
-  allocatable_is (fact.Data token end) is = tt
-  allocatable_is (fact.Space token name cells bits flags) is = tt
-  allocatable_is (fact.Zero token space cell) is = tt
-  allocatable_is (fact.Frame token space cell) is = tt
-  allocatable_is (fact.Link token space cell) is = tt
-  allocatable_is (fact.Function token name params body) is = tt
-  allocatable_is (fact.Effects token name params body) is = tt
-  allocatable_is (fact.Instruction token name operands body) is = tt
+  allocatable_is _ is = tt
 
   few_cells_item : (item : Item) → IsFaultless (facts_in items) whole item
       → AllByRecursion (λ s. s.cells ≤ 64) (map space_of (space_of_item item))
@@ -269,20 +200,7 @@ module _ (items : List Item) (whole : List Meaning) (all : AllByRecursion (IsFau
       let a = none_of (width_faults bits) (more_than 8 token (suc is.spaces) ++ more_than 64 token cells.value) is.none in
       let b = none_of (more_than 8 token (suc is.spaces)) (more_than 64 token cells.value) a.1 in
       (within_limit 64 token cells.value b.1, tt)
-  few_cells_item (fact.Word token bits) is = tt
-  few_cells_item (fact.ByteOrder token order) is = tt
-  few_cells_item (fact.Align token bytes) is = tt
-  few_cells_item (fact.SlotBits token bits) is = tt
-  few_cells_item (fact.Memory token bytes) is = tt
-  few_cells_item (fact.Code token end) is = tt
-  few_cells_item (fact.Data token end) is = tt
-  few_cells_item (fact.Zero token space cell) is = tt
-  few_cells_item (fact.Frame token space cell) is = tt
-  few_cells_item (fact.Link token space cell) is = tt
-  few_cells_item (fact.Allocatable token space first last) is = tt
-  few_cells_item (fact.Function token name params body) is = tt
-  few_cells_item (fact.Effects token name params body) is = tt
-  few_cells_item (fact.Instruction token name operands body) is = tt
+  few_cells_item _ is = tt
 
   few_cells : (rest : List Item) → AllByRecursion (IsFaultless (facts_in items) whole) rest
       → AllByRecursion (λ s. s.cells ≤ 64) (map space_of (spaces_in rest))
@@ -294,7 +212,7 @@ module _ (items : List Item) (whole : List Meaning) (all : AllByRecursion (IsFau
 
   -- the spaces of register operands are there
   place_case : (token : ℕ) (o : Option (ℕ × SpaceFacts))
-      → ((i : ℕ) (s : SpaceFacts) → o ≡ Some (i, s) → IsSpace (context_in (facts_in items)) i s) → known_or o token ≡ []
+      → ((i : ℕ) (s : SpaceFacts) → o ≡ Some (i, s) → IsSpace (context_in (facts_in items)) i s) → unknown_unless (is_some o) token ≡ []
       → HasSpace (spaces_of (facts_in items)) (kind_of (register_of o))
   place_case token None space e = cc e
   place_case token (Some (i, s)) space e =
@@ -309,11 +227,8 @@ module _ (items : List Item) (whole : List Meaning) (all : AllByRecursion (IsFau
   place_is (Immediate token bits) e = tt
   place_is (Address token) e = tt
 
-  abbrev pub operand_of : Operand → List ℕ × OperandKind
-  operand_of o = (o.name.text, kind_of (facts_of_operand (facts_in items) o.kind))
-
   places_are : (operands : List Operand) → flat_map (λ o. kind_faults (facts_in items) o.kind) operands ≡ []
-      → AllByRecursion (λ o. HasSpace (spaces_of (facts_in items)) o.1) (map operand_of operands)
+      → AllByRecursion (λ o. HasSpace (spaces_of (facts_in items)) o.1) (map (operand_of (facts_in items)) operands)
   places_are [] e = tt
   places_are (o ∷ operands) e =
       let parts : (kind_faults (facts_in items) o.kind ≡ [])
@@ -335,25 +250,28 @@ module _ (items : List Item) (whole : List Meaning) (all : AllByRecursion (IsFau
 
   operation_of : (token : ℕ) (name : Ident) (operands : List Operand) (body : List Effect)
       → IsFaultless (facts_in items) whole (fact.Instruction token name operands body)
+      → IsNamedItem (fact.Instruction token name operands body)
       → IsTypedOperation (context_in (facts_in items)) (kinds_in (facts_in items) operands)
       (acts_of_instruction (facts_in items) whole operands body)
       → IsOperation (given_in items) (spaces_of (facts_in items)) (record {
         name = name.text;
-        operands = map operand_of operands;
+        operands = map (operand_of (facts_in items)) operands;
         rtl = rtl_of (acts_of_instruction (facts_in items) whole operands body);
       })
-  operation_of token name operands body is typed =
+  operation_of token name operands body is named typed =
       let limits = limits_of (facts_in items) whole is.instructions token operands body is.none in
-      let kinds : map (λ o. o.1) (map operand_of operands) ≡ kinds_in (facts_in items) operands =
-      map_twice (λ o. o.1) operand_of operands in
+      let kinds : map (λ o. o.1) (map (operand_of (facts_in items)) operands) ≡ kinds_in (facts_in items) operands =
+      map_twice (λ o. o.1) (operand_of (facts_in items)) operands in
       let word : bits_of (word_in items) ≡ word_of (given_in items) = sym (word_is (facts_in items) whole items all) in
       record {
-        operands = subst (λ n. n ≤ 8) (sym (length-map operands operand_of))
+        name = is_name name.text named.0;
+        operand_names = named_operands (facts_in items) operands named.1;
+        operands = subst (λ n. n ≤ 8) (sym (length-map operands (operand_of (facts_in items))))
             (within_limit 8 token (length operands) limits.1);
-        places = All-from_recursion (λ o. HasSpace (spaces_of (facts_in items)) o.1) (map operand_of operands)
+        places = All-from_recursion (λ o. HasSpace (spaces_of (facts_in items)) o.1) (map (operand_of (facts_in items)) operands)
             (places_are operands limits.4);
         distinct = subst AreDistinct
-            (map_twice (λ n. n.text) (λ o. o.name) operands ∙ sym (map_twice (λ o. o.0) operand_of operands))
+            (map_twice (λ n. n.text) (λ o. o.name) operands ∙ sym (map_twice (λ o. o.0) (operand_of (facts_in items)) operands))
             (distinct (map (λ o. o.name) operands) [] limits.5);
         effects = subst (λ n. n ≤ 16)
             (sym (length-map (acts_of_instruction (facts_in items) whole operands body) effect_of))
@@ -363,60 +281,36 @@ module _ (items : List Item) (whole : List Meaning) (all : AllByRecursion (IsFau
         typed = subst (λ c. IsTypedRtl c (rtl_of (acts_of_instruction (facts_in items) whole operands body))) same_context
             typed.typed;
         event = typed.event;
-        names = subst (λ w. All (EffectNames w (map (λ o. o.1) (map operand_of operands)))
+        names = subst (λ w. All (EffectNames w (map (λ o. o.1) (map (operand_of (facts_in items)) operands)))
             (rtl_of (acts_of_instruction (facts_in items) whole operands body)).effects) word
             (subst (λ ks. All (EffectNames (bits_of (word_in items)) ks)
             (rtl_of (acts_of_instruction (facts_in items) whole operands body)).effects) (sym kinds) typed.names);
       }
 
-  operation_item : (item : Item) → IsFaultless (facts_in items) whole item → IsTypedItem (facts_in items) whole item
+  operation_item : (item : Item) → IsFaultless (facts_in items) whole item → IsNamedItem item
+      → IsTypedItem (facts_in items) whole item
       → AllByRecursion (IsOperation (given_in items) (spaces_of (facts_in items)))
       (operation_of_item (facts_in items) whole item)
-  operation_item (fact.Instruction token name operands body) is typed =
-      (operation_of token name operands body is typed, tt)
-  operation_item (fact.Word token bits) is typed = tt
-  operation_item (fact.ByteOrder token order) is typed = tt
-  operation_item (fact.Align token bytes) is typed = tt
-  operation_item (fact.SlotBits token bits) is typed = tt
-  operation_item (fact.Memory token bytes) is typed = tt
-  operation_item (fact.Code token end) is typed = tt
-  operation_item (fact.Data token end) is typed = tt
-  operation_item (fact.Space token name cells bits flags) is typed = tt
-  operation_item (fact.Zero token space cell) is typed = tt
-  operation_item (fact.Frame token space cell) is typed = tt
-  operation_item (fact.Link token space cell) is typed = tt
-  operation_item (fact.Allocatable token space first last) is typed = tt
-  operation_item (fact.Function token name params body) is typed = tt
-  operation_item (fact.Effects token name params body) is typed = tt
+  operation_item (fact.Instruction token name operands body) is named typed =
+      (operation_of token name operands body is named typed, tt)
+  operation_item _ is named typed = tt
 
   operations_are : (rest : List Item) → AllByRecursion (IsFaultless (facts_in items) whole) rest
+      → AllByRecursion IsNamedItem rest
       → AllByRecursion (IsTypedItem (facts_in items) whole) rest
       → AllByRecursion (IsOperation (given_in items) (spaces_of (facts_in items)))
       (flat_map (operation_of_item (facts_in items) whole) rest)
-  operations_are [] rest_all typed = tt
-  operations_are (item ∷ rest) rest_all typed =
+  operations_are [] rest_all named typed = tt
+  operations_are (item ∷ rest) rest_all named typed =
       each_append (IsOperation (given_in items) (spaces_of (facts_in items)))
       (operation_of_item (facts_in items) whole item) (flat_map (operation_of_item (facts_in items) whole) rest)
-      (operation_item item rest_all.0 typed.0) (operations_are rest rest_all.1 typed.1)
+      (operation_item item rest_all.0 named.0 typed.0) (operations_are rest rest_all.1 named.1 typed.1)
 
   -- the names of operations are those of the instructions
   names_of_item : (item : Item)
       → map (λ o. o.name) (operation_of_item (facts_in items) whole item) ≡ texts (instruction_name item)
   names_of_item (fact.Instruction token name operands body) = refl
-  names_of_item (fact.Word token bits) = refl
-  names_of_item (fact.ByteOrder token order) = refl
-  names_of_item (fact.Align token bytes) = refl
-  names_of_item (fact.SlotBits token bits) = refl
-  names_of_item (fact.Memory token bytes) = refl
-  names_of_item (fact.Code token end) = refl
-  names_of_item (fact.Data token end) = refl
-  names_of_item (fact.Space token name cells bits flags) = refl
-  names_of_item (fact.Zero token space cell) = refl
-  names_of_item (fact.Frame token space cell) = refl
-  names_of_item (fact.Link token space cell) = refl
-  names_of_item (fact.Allocatable token space first last) = refl
-  names_of_item (fact.Function token name params body) = refl
-  names_of_item (fact.Effects token name params body) = refl
+  names_of_item _ = refl
 
   names_of_operations : (rest : List Item)
       → map (λ o. o.name) (flat_map (operation_of_item (facts_in items) whole) rest) ≡ texts (flat_map instruction_name rest)
@@ -428,23 +322,20 @@ module _ (items : List Item) (whole : List Meaning) (all : AllByRecursion (IsFau
       ∙ ap (λ xs. texts (instruction_name item) ++ xs) (names_of_operations rest)
       ∙ sym (map-append (λ n. n.text) (instruction_name item) (flat_map instruction_name rest))
 
-if_some : {A : Type 0} (P Q : A → Type 0) (o : Option A) → IfSome o P → ((x : A) → P x → Q x) → IfSome o Q
-if_some P Q None p f = tt
-if_some P Q (Some x) p f = f x p
-
 -- What a text without faults means is what a description can be made of.
-pub keeps : (raw : RawMachine) → told (faults_of raw) ≡ None
-    → AreParts (machine_of raw).given (machine_of raw).spaces (machine_of raw).operations
-keeps raw e =
+pub keeps : (raw : RawMachine) → AreNamed raw → reported (faults_of raw) ≡ None
+    → AreParts (machine_of raw).name (machine_of raw).given (machine_of raw).spaces (machine_of raw).operations
+keeps raw named e =
     let items : List Item = raw.items in
+    let names : AllByRecursion IsNamedItem items = recursion_from_All IsNamedItem items named.items in
     let facts : Facts = facts_in items in
     let ms : List Meaning = meanings_in facts items in
-    let parts : (second_names items ≡ []) × (faults_after facts ms [] 0 0 items ≡ []) =
-    none_of (second_names items) (faults_after facts ms [] 0 0 items) (nothing_told (faults_of raw) e) in
+    let parts : (second_declarations items ≡ []) × (faults_after facts ms [] 0 0 items ≡ []) =
+    none_of (second_declarations items) (faults_after facts ms [] 0 0 items) (nothing_reported (faults_of raw) e) in
     let all : AllByRecursion (IsFaultless facts ms) items = faultless facts ms [] 0 0 items parts.1 in
     let few : (0 + length (flat_map instruction_name items) ≤ 256) × (0 + length (flat_map space_name items) ≤ 8) =
     few_items facts ms items [] 0 0 parts.1 (omega arith) (omega arith) in
-    let a = none_of (repeated (flat_map single_item items)) (repeated (flat_map space_name items)
+    let a = none_of (second_singles [] (flat_map single_item items)) (repeated (flat_map space_name items)
     ++ (repeated_after (map (λ p. p.0) operators) (flat_map function_name items)
     ++ repeated (flat_map instruction_name items))) parts.0 in
     let b = none_of (repeated (flat_map space_name items))
@@ -469,18 +360,18 @@ keeps raw e =
     (λ x. IsCellOf (spaces_of facts) (x.0, x.1) × IsCellOf (spaces_of facts) (x.0, x.2)) items all
     (allocatable_is items ms all) in
     record {
+      is_name = is_name raw.name.text named.name;
+      space_names = All-from_recursion (λ s. IsName s.name) (spaces_of facts) (named_spaces items names);
       few_spaces = omega (arith, many_spaces, few.1);
       few_cells = All-from_recursion (λ s. s.cells ≤ 64) (spaces_of facts) (few_cells items ms all items all);
       distinct_spaces = subst AreDistinct (sym space_names) (distinct (flat_map space_name items) [] b.0);
       frame = first_is items ms all (frame_given facts) (IsCellOf (spaces_of facts)) items all (frame_is items ms all);
       link = first_is items ms all (link_given facts) (IsCellOf (spaces_of facts)) items all (link_is items ms all);
       «zero» = first_is items ms all (zero_given facts) (IsCellOf (spaces_of facts)) items all (zero_is items ms all);
-      first = if_some (λ x. IsCellOf (spaces_of facts) (x.0, x.1) × IsCellOf (spaces_of facts) (x.0, x.2))
-          (λ x. IsCellOf (spaces_of facts) (x.0, x.1)) (first_given (allocatable_given facts) items) allocatable (λ x p. p.0);
-      last = if_some (λ x. IsCellOf (spaces_of facts) (x.0, x.1) × IsCellOf (spaces_of facts) (x.0, x.2))
-          (λ x. IsCellOf (spaces_of facts) (x.0, x.2)) (first_given (allocatable_given facts) items) allocatable (λ x p. p.1);
+      first = IfSome_then (first_given (allocatable_given facts) items) allocatable (λ x p. p.0);
+      last = IfSome_then (first_given (allocatable_given facts) items) allocatable (λ x p. p.1);
       few_operations = omega (arith, many_operations, few.0);
       distinct_operations = subst AreDistinct (sym operation_names) (distinct (flat_map instruction_name items) [] c.1);
       each = All-from_recursion (IsOperation (given_in items) (spaces_of facts)) operations
-          (operations_are items ms all items all (typed_text raw e));
+          (operations_are items ms all items all names (typed_text raw e));
     }

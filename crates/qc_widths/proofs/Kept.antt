@@ -1,4 +1,4 @@
--- What is kept of tokens is all that is told of them.
+-- What is kept of tokens is all that is reported of them.
 use Rattle.std.proofs.Common.{ℕ, ◌≡◌, ◌+◌, ◌<◌, ◌++◌, Bool, true, false, List, [], ◌∷◌, Option, Some, None, length, map, take, drop, min, get_or, refl, sym, ap, ◌∙◌, arith}
 use Rattle.std.specs.Prelude.{if◌then◌else◌}
 use Rattle.std.specs.List.{flat_map}
@@ -8,12 +8,12 @@ use Rattle.std.proofs.lemmas.Grind.{common_steps, flat_map-append}
 use Rattle.std.proofs.lemmas.Bool.Decides.{nat_tests}
 use Rattle.qc_widths.specs.declared.faults.WidthFault.{WidthFault}
 use Rattle.qc_widths.specs.declared.faults.WidthFault.TheVariants.{UnknownName, TwiceNamed}
-use Rattle.qc_widths.specs.Faults.{told, told_of_two, told_of_both}
+use Rattle.qc_widths.specs.Faults.{reported, reported_of_two, reported_of_both, token_of, rank_of}
 use Rattle.qc_widths.specs.Scopes.{Names, Signature}
 use Rattle.qc_widths.specs.Expressions.{Expression, argument_faults}
 use Rattle.qc_widths.specs.Effects.{fits_target, target_faults, effects_faults, targets_at, targets_of, is_named}
-use Rattle.qc_widths.specs.Summaries.{lesser, least, events_in, joined_events, summary, signature_like, at_most_one}
-use Rattle.qc_widths.proofs.Told.{told-append}
+use Rattle.qc_widths.specs.Inner.KeptSignatures.{lesser, least, events_in, joined_events, summary, signature_like, at_most_one}
+use Rattle.qc_names.specs.Law.Reported.{reported-append}
 
 -- the lesser of three does not hang on how they are paired
 pub lesser-assoc : (a b c : Option ℕ) → lesser (lesser a b) c ≡ lesser a (lesser b c)
@@ -56,47 +56,47 @@ unfolding events_in least
 later-is [] = refl
 later-is (x ∷ xs) = refl
 
--- of faults of one sort that of the least token is told
-told-unknown-two : (x : ℕ) (t : Option ℕ)
-    → Some (told_of_two (UnknownName x) (option_map UnknownName t)) ≡ option_map UnknownName (lesser (Some x) t)
-told-unknown-two x None = refl
-told-unknown-two x (Some y) = grind (arith, common_steps, nat_tests)
+-- of faults of one sort that of the least token is reported
+reported-unknown-two : (x : ℕ) (t : Option ℕ)
+    → Some (reported_of_two (UnknownName x) (option_map UnknownName t)) ≡ option_map UnknownName (lesser (Some x) t)
+reported-unknown-two x None = refl
+reported-unknown-two x (Some y) = grind (arith, common_steps, nat_tests)
 
-told-twice-two : (x : ℕ) (t : Option ℕ)
-    → Some (told_of_two (TwiceNamed x) (option_map TwiceNamed t)) ≡ option_map TwiceNamed (lesser (Some x) t)
-told-twice-two x None = refl
-told-twice-two x (Some y) = grind (arith, common_steps, nat_tests)
+reported-twice-two : (x : ℕ) (t : Option ℕ)
+    → Some (reported_of_two (TwiceNamed x) (option_map TwiceNamed t)) ≡ option_map TwiceNamed (lesser (Some x) t)
+reported-twice-two x None = refl
+reported-twice-two x (Some y) = grind (arith, common_steps, nat_tests)
 
--- of unknown names the least is told, and of second names
-pub told-unknown : (xs : List ℕ) → told (map UnknownName xs) ≡ option_map UnknownName (least xs)
+-- of unknown names the least is reported, and of second names
+pub reported-unknown : (xs : List ℕ) → reported (map UnknownName xs) ≡ option_map UnknownName (least xs)
 unfolding least
-told-unknown [] = refl
-told-unknown (x ∷ xs) = ap (λ t. Some (told_of_two (UnknownName x) t)) (told-unknown xs) ∙ told-unknown-two x (least xs)
+reported-unknown [] = refl
+reported-unknown (x ∷ xs) = ap (λ t. Some (reported_of_two (UnknownName x) t)) (reported-unknown xs) ∙ reported-unknown-two x (least xs)
 
-pub told-twice : (xs : List ℕ) → told (map TwiceNamed xs) ≡ option_map TwiceNamed (least xs)
+pub reported-twice : (xs : List ℕ) → reported (map TwiceNamed xs) ≡ option_map TwiceNamed (least xs)
 unfolding least
-told-twice [] = refl
-told-twice (x ∷ xs) = ap (λ t. Some (told_of_two (TwiceNamed x) t)) (told-twice xs) ∙ told-twice-two x (least xs)
+reported-twice [] = refl
+reported-twice (x ∷ xs) = ap (λ t. Some (reported_of_two (TwiceNamed x) t)) (reported-twice xs) ∙ reported-twice-two x (least xs)
 
--- the least token is all that is told of a parameter's targets
-told-kept : (b : Bool) (xs : List ℕ)
-    → told (if b then [] else map UnknownName (at_most_one (least xs))) ≡ told (if b then [] else map UnknownName xs)
-told-kept true xs = refl
-told-kept false xs =
-    told-unknown (at_most_one (least xs)) ∙ ap (option_map UnknownName) (least-kept (least xs)) ∙ sym (told-unknown xs)
+-- the least token is all that is reported of a parameter's targets
+reported-kept : (b : Bool) (xs : List ℕ)
+    → reported (if b then [] else map UnknownName (at_most_one (least xs))) ≡ reported (if b then [] else map UnknownName xs)
+reported-kept true xs = refl
+reported-kept false xs =
+    reported-unknown (at_most_one (least xs)) ∙ ap (option_map UnknownName) (least-kept (least xs)) ∙ sym (reported-unknown xs)
 
-told-targets : (names : Names) (targets : List (List ℕ)) (args : List Expression)
-    → told (target_faults names (map at_most_one (map least targets)) args) ≡ told (target_faults names targets args)
-told-targets names [] args = refl
-told-targets names (xs ∷ targets) [] = refl
-told-targets names (xs ∷ targets) (arg ∷ args) =
+reported-targets : (names : Names) (targets : List (List ℕ)) (args : List Expression)
+    → reported (target_faults names (map at_most_one (map least targets)) args) ≡ reported (target_faults names targets args)
+reported-targets names [] args = refl
+reported-targets names (xs ∷ targets) [] = refl
+reported-targets names (xs ∷ targets) (arg ∷ args) =
     let fits : Bool = fits_target names arg.bare in
     let here : List ℕ → List WidthFault = λ tokens. if fits then [] else map UnknownName tokens in
     let kept : List WidthFault = target_faults names (map at_most_one (map least targets)) args in
-    told-append (here (at_most_one (least xs))) kept
-    ∙ ap (λ t. told_of_both t (told kept)) (told-kept fits xs)
-    ∙ ap (told_of_both (told (here xs))) (told-targets names targets args)
-    ∙ sym (told-append (here xs) (target_faults names targets args))
+    reported-append token_of rank_of (here (at_most_one (least xs))) kept
+    ∙ ap (λ t. reported_of_both t (reported kept)) (reported-kept fits xs)
+    ∙ ap (reported_of_both (reported (here xs))) (reported-targets names targets args)
+    ∙ sym (reported-append token_of rank_of (here xs) (target_faults names targets args))
 
 -- and all that is kept of them in the signature of other effects
 least-kept-if : (b : Bool) (xs : List ℕ)
@@ -117,15 +117,15 @@ least-targets name (xs ∷ targets) (arg ∷ args) =
     ∙ ap (lesser (least (here xs))) (least-targets name targets args)
     ∙ sym (least-append (here xs) (targets_at name targets args))
 
--- what is told of a use of named effects, by what is kept of their signature
+-- what is reported of a use of named effects, by what is kept of their signature
 pub use-kept : (names : Names) (s : Option Signature) (token : ℕ) (args : List Expression)
-    → told (effects_faults names (option_map signature_like (option_map summary s)) token args)
-    ≡ told (effects_faults names s token args)
+    → reported (effects_faults names (option_map signature_like (option_map summary s)) token args)
+    ≡ reported (effects_faults names s token args)
 use-kept names None token args = refl
 use-kept names (Some s) token args =
-    told-append (argument_faults names s.params args) (target_faults names (map at_most_one (map least s.targets)) args)
-    ∙ ap (told_of_both (told (argument_faults names s.params args))) (told-targets names s.targets args)
-    ∙ sym (told-append (argument_faults names s.params args) (target_faults names s.targets args))
+    reported-append token_of rank_of (argument_faults names s.params args) (target_faults names (map at_most_one (map least s.targets)) args)
+    ∙ ap (reported_of_both (reported (argument_faults names s.params args))) (reported-targets names s.targets args)
+    ∙ sym (reported-append token_of rank_of (argument_faults names s.params args) (target_faults names s.targets args))
 
 -- the targets of a use of named effects, by what is kept of their signature
 pub targets-kept : (name : List ℕ) (s : Option Signature) (args : List Expression)

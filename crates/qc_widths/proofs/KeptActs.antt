@@ -5,8 +5,8 @@ use Rattle.std.proofs.lemmas.Bool.{cases_lt}
 use Rattle.std.proofs.Common.{inl, inr}
 use Rattle.std.proofs.lemmas.Grind.{common_steps}
 use Rattle.qc_widths.specs.declared.acts.Acts.{Acts}
-use Rattle.qc_widths.specs.Elaboration.{AreActs}
-use Rattle.qc_widths.specs.Kept.{seen_acts, nodes_in_acts}
+use Rattle.qc_widths.specs.Inner.Elaboration.{AreActs}
+use Rattle.qc_widths.specs.Inner.KeptEffects.{seen_acts, nodes_in_acts}
 use Rattle.qc_widths.specs.Scopes.{Act}
 
 seen_are : (acts : List Act) → AreActs acts (seen_acts acts)

@@ -1,5 +1,4 @@
 pub mod Halvings
-pub mod Told
 pub mod Written
 pub mod Lookups
 pub mod Paired
@@ -8,7 +7,7 @@ pub mod ArgumentLists
 pub mod Earlier
 pub mod Tables
 pub mod Numbered
-pub mod Repeats
+pub mod Singles
 pub mod ItemByItem
 pub mod NoFault
 pub mod Seen
@@ -19,6 +18,7 @@ pub mod Falling
 pub mod Using
 pub mod Laws
 pub mod Gathered
+pub mod Typed
 pub mod TypedNodes
 pub mod PlainOperators
 pub mod Fine
@@ -30,5 +30,6 @@ pub mod GoodTable
 pub mod TypedOperations
 pub mod Complete
 pub mod Counts
+pub mod Naming
 pub mod Keeps
 pub mod KeptActs

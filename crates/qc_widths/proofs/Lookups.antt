@@ -5,14 +5,14 @@ use Rattle.std.specs.Option.{option_map, option_and_then}
 use Rattle.std.specs.Str.{bytes_eq}
 use Rattle.std.proofs.lemmas.List.{append-nil, map-append}
 use Rattle.std.proofs.lemmas.Option.{slice_get-map}
-use Rattle.qc_text.specs.declared.cursor.Ident.{Ident}
+use Rattle.qc_grammar.specs.declared.cursor.Ident.{Ident}
 use Rattle.qc_lrtl.specs.declared.syntax.Item.{Item}
 use Rattle.qc_lrtl.specs.declared.syntax.Item.TheVariants as fact
 use Rattle.qc_widths.specs.declared.names.Names as tables
 use Rattle.qc_widths.specs.Scopes.{Facts, Signature, named, placed_from, signature_in}
 use Rattle.qc_widths.specs.Declarations.{place_of, place_of_function, function_name, signature_of_item, signatures_after, signatures_in}
-use Rattle.qc_widths.specs.Summaries.{summary}
-use Rattle.qc_widths.specs.NamesAt.{names_at, first_signatures, IsReady}
+use Rattle.qc_widths.specs.Inner.KeptSignatures.{summary}
+use Rattle.qc_widths.specs.Inner.KeptNames.{names_at, first_signatures, IsReady}
 
 -- the place of a name in a list of names that begins at this place
 place_from : ℕ → List (List ℕ) → List ℕ → Option ℕ
@@ -68,21 +68,8 @@ found_at f (suc level) (x ∷ xs) name =
 -- an item's name is that of its signature
 names-item : (facts : Facts) (earlier : List Signature) (item : Item)
     → map (λ s. s.name) (signature_of_item facts earlier item) ≡ map (λ n. n.text) (function_name item)
-names-item facts earlier (fact.Word token bits) = refl
-names-item facts earlier (fact.ByteOrder token order) = refl
-names-item facts earlier (fact.Align token bytes) = refl
-names-item facts earlier (fact.SlotBits token bits) = refl
-names-item facts earlier (fact.Memory token bytes) = refl
-names-item facts earlier (fact.Code token end) = refl
-names-item facts earlier (fact.Data token end) = refl
-names-item facts earlier (fact.Space token name cells bits flags) = refl
-names-item facts earlier (fact.Zero token space cell) = refl
-names-item facts earlier (fact.Frame token space cell) = refl
-names-item facts earlier (fact.Link token space cell) = refl
-names-item facts earlier (fact.Allocatable token space first last) = refl
 names-item facts earlier (fact.Function token name params body) = refl
-names-item facts earlier (fact.Effects token name params body) = refl
-names-item facts earlier (fact.Instruction token name operands body) = refl
+names-item facts earlier _ = refl
 
 names-after : (facts : Facts) (earlier : List Signature) (items : List Item)
     → map (λ s. s.name) (signatures_after facts earlier items)

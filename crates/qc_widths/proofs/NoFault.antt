@@ -1,4 +1,4 @@
--- What holds where no fault is told.
+-- What holds where no fault is reported.
 use Rattle.std.specs.Prelude.{ℕ, suc, ◌≡◌, ◌<◌, ◌≤◌, ◌+◌, ◌^◌, Bool, true, false, nat_lt, ◌&&◌, if◌then◌else◌, List, [], ◌∷◌, ◌++◌, length, All, Option, None, Some}
 use Rattle.std.specs.List.{list_all}
 use Rattle.std.proofs.Common.{refl, ap, sym, ◌∙◌, arith, subst}
@@ -6,25 +6,26 @@ use Rattle.std.proofs.lemmas.Bool.{ltb-true, lt-ltb}
 use Rattle.std.proofs.lemmas.Bool.Decides.{Decides-ltb}
 use Rattle.std.proofs.lemmas.List.Elements.{All-nil, All-cons, All-head, All-tail, All-append, All-get_or}
 use Rattle.std.proofs.lemmas.Option.{get_or_from_slice_get}
-use Rattle.qc_text.specs.declared.cursor.Ident.{Ident}
-use Rattle.qc_text.specs.declared.number.Number.{Number}
+use Rattle.qc_widths.specs.TextFaults.{more_than}
+use Rattle.qc_widths.specs.TextFaults.{second_declarations, item_faults, faults_after, faults_of}
+use Rattle.qc_grammar.specs.declared.cursor.Ident.{Ident}
+use Rattle.qc_grammar.specs.declared.cursor.Number.{Number}
 use Rattle.qc_lrtl.specs.declared.syntax.Item.{Item}
 use Rattle.qc_lrtl.specs.declared.syntax.Item.TheVariants as fact
 use Rattle.qc_lrtl.specs.declared.syntax.RawMachine.{RawMachine}
 use Rattle.qc_widths.specs.declared.facts.SpaceFacts.{SpaceFacts}
 use Rattle.qc_widths.specs.declared.faults.WidthFault.{WidthFault}
 use Rattle.qc_widths.specs.declared.faults.WidthFault.TheVariants.{UnknownName, TooMany}
-use Rattle.qc_widths.specs.Faults.{told}
+use Rattle.qc_widths.specs.Faults.{reported}
 use Rattle.qc_widths.specs.Scopes.{Facts, Signature, Meaning, space_named, number_faults, cell_faults}
 use Rattle.qc_widths.specs.Declarations.{place_of, meanings_in, space_of_item, spaces_in, facts_in, instruction_name, space_name, signature_of_item}
-use Rattle.qc_widths.specs.Machine.{second_names, more_than, item_faults, faults_after, faults_of}
-use Rattle.qc_widths.specs.Given.{has_small_cells, is_small_space}
+use Rattle.qc_widths.specs.Inner.Given.{has_small_cells, is_small_space}
 use Rattle.qc_widths.specs.Numbers.{width_faults}
 use Rattle.qc_widths.proofs.Tables.{StandsAt, placed-stands}
 
-pub told-none : (faults : List WidthFault) → told faults ≡ None → faults ≡ []
-told-none [] h = refl
-told-none (f ∷ fs) h = cc
+pub reported-none : (faults : List WidthFault) → reported faults ≡ None → faults ≡ []
+reported-none [] h = refl
+reported-none (f ∷ fs) h = cc
 
 pub append-none : {A : Type 0} (xs ys : List A) → xs ++ ys ≡ [] → (xs ≡ []) × (ys ≡ [])
 append-none [] ys h = (refl, h)
@@ -80,24 +81,11 @@ HaveFewCells spaces = All (λ s. s.cells ≤ 64) spaces
 
 few-cells-of-item : (facts : Facts) (earlier : List Signature) (meanings : List Meaning) (i n : ℕ) (item : Item) →
     item_faults facts earlier meanings i n item ≡ [] → HaveFewCells (space_of_item item)
-few-cells-of-item facts earlier meanings i n (fact.Word token bits) h = All-nil _
-few-cells-of-item facts earlier meanings i n (fact.ByteOrder token order) h = All-nil _
-few-cells-of-item facts earlier meanings i n (fact.Align token bytes) h = All-nil _
-few-cells-of-item facts earlier meanings i n (fact.SlotBits token bits) h = All-nil _
-few-cells-of-item facts earlier meanings i n (fact.Memory token bytes) h = All-nil _
-few-cells-of-item facts earlier meanings i n (fact.Code token end) h = All-nil _
-few-cells-of-item facts earlier meanings i n (fact.Data token end) h = All-nil _
 few-cells-of-item facts earlier meanings i n (fact.Space token name cells bits flags) h =
     let counts = (append-none (width_faults bits) (more_than 8 token (suc n) ++ more_than 64 token cells.value) h).1 in
     let few = (append-none (more_than 8 token (suc n)) (more_than 64 token cells.value) counts).1 in
     All-cons (λ s. s.cells ≤ 64) _ [] (at-most 64 token cells.value few) (All-nil _)
-few-cells-of-item facts earlier meanings i n (fact.Zero token space cell) h = All-nil _
-few-cells-of-item facts earlier meanings i n (fact.Frame token space cell) h = All-nil _
-few-cells-of-item facts earlier meanings i n (fact.Link token space cell) h = All-nil _
-few-cells-of-item facts earlier meanings i n (fact.Allocatable token space first last) h = All-nil _
-few-cells-of-item facts earlier meanings i n (fact.Function token name params body) h = All-nil _
-few-cells-of-item facts earlier meanings i n (fact.Effects token name params body) h = All-nil _
-few-cells-of-item facts earlier meanings i n (fact.Instruction token name operands body) h = All-nil _
+few-cells-of-item facts earlier meanings i n _ h = All-nil _
 
 pub few-cells : (facts : Facts) (meanings : List Meaning) (earlier : List Signature) (i n : ℕ) (items : List Item) →
     faults_after facts meanings earlier i n items ≡ [] → HaveFewCells (spaces_in items)
@@ -125,14 +113,6 @@ small-cell facts space cell few none =
 
 small-cells-of-item : (facts : Facts) (earlier : List Signature) (meanings : List Meaning) (i n : ℕ) (item : Item) →
     HaveFewCells facts.spaces → item_faults facts earlier meanings i n item ≡ [] → has_small_cells item ≡ true
-small-cells-of-item facts earlier meanings i n (fact.Word token bits) few h = refl
-small-cells-of-item facts earlier meanings i n (fact.ByteOrder token order) few h = refl
-small-cells-of-item facts earlier meanings i n (fact.Align token bytes) few h = refl
-small-cells-of-item facts earlier meanings i n (fact.SlotBits token bits) few h = refl
-small-cells-of-item facts earlier meanings i n (fact.Memory token bytes) few h = refl
-small-cells-of-item facts earlier meanings i n (fact.Code token end) few h = refl
-small-cells-of-item facts earlier meanings i n (fact.Data token end) few h = refl
-small-cells-of-item facts earlier meanings i n (fact.Space token name cells bits flags) few h = refl
 small-cells-of-item facts earlier meanings i n (fact.Zero token space cell) few h = small-cell facts space cell few h
 small-cells-of-item facts earlier meanings i n (fact.Frame token space cell) few h = small-cell facts space cell few h
 small-cells-of-item facts earlier meanings i n (fact.Link token space cell) few h = small-cell facts space cell few h
@@ -140,9 +120,7 @@ small-cells-of-item facts earlier meanings i n (fact.Allocatable token space fir
     let parts = append-none (cell_faults facts space first) (cell_faults facts space last) h in
     ap (λ b. b && nat_lt last.value (2 ^ 32)) (small-cell facts space first few parts.0)
     ∙ small-cell facts space last few parts.1
-small-cells-of-item facts earlier meanings i n (fact.Function token name params body) few h = refl
-small-cells-of-item facts earlier meanings i n (fact.Effects token name params body) few h = refl
-small-cells-of-item facts earlier meanings i n (fact.Instruction token name operands body) few h = refl
+small-cells-of-item facts earlier meanings i n _ few h = refl
 
 small-cells : (facts : Facts) (meanings : List Meaning) (earlier : List Signature) (i n : ℕ) (items : List Item) →
     HaveFewCells facts.spaces → faults_after facts meanings earlier i n items ≡ [] →
@@ -165,15 +143,15 @@ small-spaces (s ∷ spaces) few =
 
 -- no fault of a machine's items
 pub record HasNoFault (items : List Item) : Type 0 where
-  pub second : second_names items ≡ []
+  pub second : second_declarations items ≡ []
   pub items_after : faults_after (facts_in items) (meanings_in (facts_in items) items) [] 0 0 items ≡ []
   pub few_cells : HaveFewCells (spaces_in items)
 
-pub no-fault : (raw : RawMachine) → told (faults_of raw) ≡ None → HasNoFault raw.items
+pub no-fault : (raw : RawMachine) → reported (faults_of raw) ≡ None → HasNoFault raw.items
 no-fault raw none =
-    let parts = append-none (second_names raw.items)
+    let parts = append-none (second_declarations raw.items)
     (faults_after (facts_in raw.items) (meanings_in (facts_in raw.items) raw.items) [] 0 0 raw.items)
-    (told-none (faults_of raw) none) in
+    (reported-none (faults_of raw) none) in
     record {
       second = parts.0;
       items_after = parts.1;

@@ -7,33 +7,21 @@ use Rattle.std.specs.Option.{option_map}
 use Rattle.std.proofs.Math.Seq.{take-length}
 use Rattle.std.proofs.lemmas.Option.{slice_get-get_or, slice_get-map}
 use Rattle.std.proofs.lemmas.List.Concat.{flat_map-append}
-use Rattle.qc_text.specs.declared.cursor.Ident.{Ident}
-use Rattle.qc_names.specs.Tables.{number_at, entered}
+use Rattle.qc_grammar.specs.declared.cursor.Ident.{Ident}
+use Rattle.qc_names.specs.Tables.{number_at, entered, IsIndexOf}
+use Rattle.qc_names.specs.Law.Tables.{index-none, index-entered}
 use Rattle.qc_lrtl.specs.declared.syntax.Item.{Item}
 use Rattle.qc_lrtl.specs.declared.syntax.Item.TheVariants as fact
 use Rattle.qc_widths.specs.Declarations.{function_item, function_items, function_name, place_of, place_of_function}
 use Rattle.qc_widths.specs.Scopes.{placed_from}
 use Rattle.qc_widths.specs.declared.functions.Functions.{Functions}
-use Rattle.qc_widths.specs.Functions.{IsTableOf}
-use Rattle.qc_widths.specs.Tables.{IsIndexOf, AreNumbered, HasFirst}
-use Rattle.qc_widths.proofs.Tables.{index-none, index-entered, placed-map}
+use Rattle.qc_widths.specs.Inner.FunctionTables.{IsTableOf}
+use Rattle.qc_widths.specs.Inner.SpaceTables.{AreNumbered, HasFirst}
+use Rattle.qc_widths.proofs.Tables.{placed-first}
 
 name_of_function_item : (item : Item) → flat_map function_name (function_item item) ≡ function_name item
-name_of_function_item (fact.Word token bits) = refl
-name_of_function_item (fact.ByteOrder token order) = refl
-name_of_function_item (fact.Align token bytes) = refl
-name_of_function_item (fact.SlotBits token bits) = refl
-name_of_function_item (fact.Memory token bytes) = refl
-name_of_function_item (fact.Code token end) = refl
-name_of_function_item (fact.Data token end) = refl
-name_of_function_item (fact.Space token name cells bits flags) = refl
-name_of_function_item (fact.Zero token space cell) = refl
-name_of_function_item (fact.Frame token space cell) = refl
-name_of_function_item (fact.Link token space cell) = refl
-name_of_function_item (fact.Allocatable token space first last) = refl
 name_of_function_item (fact.Function token name params body) = refl
-name_of_function_item (fact.Effects token name params body) = refl
-name_of_function_item (fact.Instruction token name operands body) = refl
+name_of_function_item _ = refl
 
 -- the names of functions and named effects are those of the items that declare them
 pub names_of_function_items : (items : List Item) →
@@ -73,43 +61,19 @@ pub numbered-place : (items : List Item) (es : List (List ℕ × ℕ)) → AreNu
     (name : List ℕ) → number_at es name ≡ place_of_function items name
 numbered-place items es numbered name =
     numbered.index.places name
-    ∙ placed-map 0 (λ n. n.text) (flat_map function_name (function_items items)) name
+    ∙ placed-first 0 (λ n. n.text) (flat_map function_name (function_items items)) name
     ∙ ap (λ names. place_of (placed_from 0 (λ n. n.text) names name)) (names_of_function_items items)
 
 -- an item without a name of a function declares none, and one with a name declares itself
 item-none : (item : Item) → [] ≡ function_name item → function_item item ≡ []
-item-none (fact.Word token bits) h = refl
-item-none (fact.ByteOrder token order) h = refl
-item-none (fact.Align token bytes) h = refl
-item-none (fact.SlotBits token bits) h = refl
-item-none (fact.Memory token bytes) h = refl
-item-none (fact.Code token end) h = refl
-item-none (fact.Data token end) h = refl
-item-none (fact.Space token name cells bits flags) h = refl
-item-none (fact.Zero token space cell) h = refl
-item-none (fact.Frame token space cell) h = refl
-item-none (fact.Link token space cell) h = refl
-item-none (fact.Allocatable token space first last) h = refl
 item-none (fact.Function token name params body) h = cc
 item-none (fact.Effects token name params body) h = cc
-item-none (fact.Instruction token name operands body) h = refl
+item-none _ h = refl
 
 item-some : (item : Item) (name : Ident) → name ∷ [] ≡ function_name item → function_item item ≡ item ∷ []
-item-some (fact.Word token bits) n h = cc
-item-some (fact.ByteOrder token order) n h = cc
-item-some (fact.Align token bytes) n h = cc
-item-some (fact.SlotBits token bits) n h = cc
-item-some (fact.Memory token bytes) n h = cc
-item-some (fact.Code token end) n h = cc
-item-some (fact.Data token end) n h = cc
-item-some (fact.Space token name cells bits flags) n h = cc
-item-some (fact.Zero token space cell) n h = cc
-item-some (fact.Frame token space cell) n h = cc
-item-some (fact.Link token space cell) n h = cc
-item-some (fact.Allocatable token space first last) n h = cc
 item-some (fact.Function token name params body) n h = refl
 item-some (fact.Effects token name params body) n h = refl
-item-some (fact.Instruction token name operands body) n h = cc
+item-some _ n h = cc
 
 items-more : (items : List Item) (place : ℕ) (item : Item) → place < length items → item ≡ get_or items place item →
     function_items (take (place + 1) items) ≡ function_items (take place items) ++ function_item item
@@ -117,25 +81,6 @@ items-more items place item within is =
     ap function_items (take_more items place item within ∙ ap (λ x. take place items ++ x ∷ []) (sym is))
     ∙ flat_map-append function_item (take place items) (item ∷ [])
     ∙ ap (λ more. function_items (take place items) ++ more) (append-nil (function_item item))
-
-pub first-none : (items : List Item) (es : List (List ℕ × ℕ)) → es ≡ [] → HasFirst items 0 [] es
-first-none items es none = record {
-  at = refl;
-  numbered = subst (AreNumbered []) (sym none) numbered-none;
-}
-
-pub first-same : (items : List Item) (place : ℕ) (places : List ℕ) (es : List (List ℕ × ℕ)) (item : Item) →
-    place < length items → item ≡ get_or items place item → [] ≡ function_name item →
-    HasFirst items place places es → HasFirst items (place + 1) places es
-first-same items place places es item within is none first =
-    let same : function_items (take place items) ≡ function_items (take (place + 1) items) =
-    sym (items-more items place item within is
-    ∙ ap (λ more. function_items (take place items) ++ more) (item-none item none)
-    ∙ append-nil (function_items (take place items))) in
-    record {
-      at = first.at ∙ ap (map Some) same;
-      numbered = subst (λ is. AreNumbered is es) same first.numbered;
-    }
 
 pub first-next : (items : List Item) (place : ℕ) (places : List ℕ) (es : List (List ℕ × ℕ)) (item : Item) (name :
     Ident) (number : ℕ) →

@@ -9,7 +9,7 @@ use Rattle.qc_terms.specs.State.{Context}
 use Rattle.qc_descr.specs.declared.description.OperandKind.{OperandKind}
 use Rattle.qc_widths.specs.Values.{Value, operator_at}
 use Rattle.qc_widths.specs.Scopes.{named, second, operators, operator_named, operands_of}
-use Rattle.qc_widths.specs.Typed.{IsGood}
+use Rattle.qc_widths.proofs.Typed.{IsGood}
 use Rattle.qc_widths.proofs.TypedNodes.{by_cond, good_unary, good_binary}
 
 -- the operators that keep or compare widths
@@ -60,9 +60,6 @@ module _ (context : Context) (kinds : List OperandKind) where
   -- an operator of as many good operands as it has
   pub good_operator : (o : Op) → IsPlain o → (token : ℕ) (args : List Value) → length args ≡ operands_of o
       → AllByRecursion (IsGood context kinds) args → IsGood context kinds (operator_at o token args)
-  good_operator (Zx to) p token args e all = absurd p
-  good_operator (Sx to) p token args e all = absurd p
-  good_operator (Slice low to) p token args e all = absurd p
   good_operator Com p token args e all =
       of_one Com token args (λ arg g. good_unary context kinds Com token arg refl (λ w. refl) (λ w. tt) g) e all
   good_operator Neg p token args e all =
@@ -105,3 +102,4 @@ module _ (context : Context) (kinds : List OperandKind) where
       of_two Ltu token args (λ l r. good_binary context kinds Ltu token l r refl (λ w. tt) (λ w m. omega arith)) e all
   good_operator Geu p token args e all =
       of_two Geu token args (λ l r. good_binary context kinds Geu token l r refl (λ w. tt) (λ w m. omega arith)) e all
+  good_operator _ p token args e all = absurd p

@@ -1,22 +1,21 @@
 -- What is kept of values.
-use Rattle.std.specs.Prelude.{ℕ, ◌≡◌, ◌+◌, ◌^◌, ◌<◌, ◌≤◌, Bool, true, false, if◌then◌else◌, ◌&&◌, List, [], ◌∷◌, ◌++◌, Option, None, Some}
+use Rattle.std.specs.Prelude.{ℕ, ◌≡◌, ◌+◌, ◌^◌, ◌<◌, ◌≤◌, Bool, true, false, if◌then◌else◌, ◌&&◌, List, [], ◌∷◌, ◌++◌, Option, None, Some, is_some}
 use Rattle.std.proofs.Common.{refl, ap, sym, ◌∙◌, arith, inl, inr}
 use Rattle.std.proofs.lemmas.Bool.{cases_lt}
 use Rattle.std.proofs.Math.Pow.{pow_mono}
 use Rattle.std.proofs.lemmas.Grind.{common_steps}
 use Rattle.qc_words.specs.declared.operator.Op.{Op}
-use Rattle.qc_text.specs.declared.number.Number.{Number}
-use Rattle.qc_names.specs.Tables.{is_there}
+use Rattle.qc_grammar.specs.declared.cursor.Number.{Number}
 use Rattle.qc_terms.specs.declared.term.Term.{Term}
 use Rattle.qc_terms.specs.declared.term.Term.TheVariants as term
 use Rattle.qc_terms.specs.Tree.{tree_of, nodes_of, tree_of-num, tree_of-reg, tree_of-imm, tree_of-input, tree_of-after, tree_of-mem, tree_of-un, tree_of-bin}
 use Rattle.qc_widths.specs.declared.faults.WidthFault.{WidthFault}
 use Rattle.qc_widths.specs.declared.value.Value.TheVariants.{Huge, Known}
-use Rattle.qc_widths.specs.Faults.{told, told_of_both}
+use Rattle.qc_widths.specs.Faults.{reported, reported_of_both, token_of, rank_of}
 use Rattle.qc_widths.specs.Numbers.{is_empty, width_in, fit_faults, literal_faults, clash}
 use Rattle.qc_widths.specs.Values as values
-use Rattle.qc_widths.specs.Evaluated.{seen, nodes_in}
-use Rattle.qc_widths.proofs.Told.{told-append}
+use Rattle.qc_widths.specs.Inner.KeptValues.{seen, nodes_in}
+use Rattle.qc_names.specs.Law.Reported.{reported-append}
 
 -- the parts of a value that is kept
 pub record Parts (kept : ℕ) (t : Term) (count : ℕ) (bits : Option ℕ) (whole : Bool) (fault : Option WidthFault)
@@ -27,10 +26,10 @@ pub record Parts (kept : ℕ) (t : Term) (count : ℕ) (bits : Option ℕ) (whol
   pub small : nodes_in v ≤ 4096
   pub width : bits ≡ v.width
   pub sound : whole ≡ v.sound
-  pub clash : fault ≡ told v.clashes
+  pub clash : fault ≡ reported v.clashes
 
 pub seen_small : (v : values.Value) → nodes_in v ≤ 4096
-    → seen v ≡ Known v.token v.term (nodes_in v) v.width v.sound (told v.clashes)
+    → seen v ≡ Known v.token v.term (nodes_in v) v.width v.sound (reported v.clashes)
 unfolding seen
 seen_small v small = grind arith
 
@@ -42,7 +41,7 @@ parts_small : (token : ℕ) (t : Term) (nodes : ℕ) (width : Option ℕ) (sound
     (v : values.Value) → nodes_in v ≤ 4096 → Known token t nodes width sound clash ≡ seen v
     → Parts token t nodes width sound clash v
 parts_small token t nodes width sound clash v small e =
-    let k : Known token t nodes width sound clash ≡ Known v.token v.term (nodes_in v) v.width v.sound (told v.clashes)
+    let k : Known token t nodes width sound clash ≡ Known v.token v.term (nodes_in v) v.width v.sound (reported v.clashes)
     = e ∙ seen_small v small in
     record {
       token = cc;
@@ -64,40 +63,40 @@ parts_of token t nodes width sound clash v e = elim (cases_lt 4096 (nodes_in v))
 pub huge_of : (v : values.Value) → Huge ≡ seen v → 4096 < nodes_in v
 huge_of v e = elim (cases_lt 4096 (nodes_in v)) [
   | inl large ↦ large
-  | inr small ↦ let k : Huge ≡ Known v.token v.term (nodes_in v) v.width v.sound (told v.clashes) = e ∙ seen_small v small in absurd (cc)
+  | inr small ↦ let k : Huge ≡ Known v.token v.term (nodes_in v) v.width v.sound (reported v.clashes) = e ∙ seen_small v small in absurd (cc)
 ]
 
-pub none_told : (own : List WidthFault) → None ≡ told own → is_empty own ≡ true
-none_told [] e = refl
-none_told (f ∷ fs) e = cc
+pub none_reported : (own : List WidthFault) → None ≡ reported own → is_empty own ≡ true
+none_reported [] e = refl
+none_reported (f ∷ fs) e = cc
 
-pub some_told : (own : List WidthFault) (f : WidthFault) → Some f ≡ told own → is_empty own ≡ false
-some_told [] f e = cc
-some_told (g ∷ fs) f e = refl
+pub some_reported : (own : List WidthFault) (f : WidthFault) → Some f ≡ reported own → is_empty own ≡ false
+some_reported [] f e = cc
+some_reported (g ∷ fs) f e = refl
 
-pub unsound : (sound : Bool) (own : List WidthFault) (f : WidthFault) → Some f ≡ told own → (sound && is_empty own) ≡ false
+pub unsound : (sound : Bool) (own : List WidthFault) (f : WidthFault) → Some f ≡ reported own → (sound && is_empty own) ≡ false
 unsound false own f e = refl
-unsound true own f e = some_told own f e
+unsound true own f e = some_reported own f e
 
 -- what is kept of a node without a fault
 pub sound_node : (token : ℕ) (t : Term) (width : Option ℕ) (sound : Bool) (inner own : List WidthFault)
-    → nodes_of (tree_of t) ≤ 4096 → sound ≡ true → None ≡ told own
-    → Known token t (nodes_of (tree_of t)) width sound (told_of_both (told inner) (told own))
+    → nodes_of (tree_of t) ≤ 4096 → sound ≡ true → None ≡ reported own
+    → Known token t (nodes_of (tree_of t)) width sound (reported_of_both (reported inner) (reported own))
     ≡ seen (values.node token t width sound inner own)
 sound_node token t width sound inner own small s o =
     let v : values.Value = values.node token t width sound inner own in
-    let e : is_empty own ≡ true = none_told own o in
-    let clash : told (inner ++ own) ≡ told_of_both (told inner) (told own) = told-append inner own in
+    let e : is_empty own ≡ true = none_reported own o in
+    let clash : reported (inner ++ own) ≡ reported_of_both (reported inner) (reported own) = reported-append token_of rank_of inner own in
     sym (seen_small v small ∙ rw (clash, e, s) refl)
 
 -- and of one that has or meets a fault
 pub faulty_node : (token : ℕ) (t : Term) (width : Option ℕ) (sound : Bool) (inner own : List WidthFault)
     → nodes_of (tree_of t) ≤ 4096 → (sound && is_empty own) ≡ false
-    → Known token t (nodes_of (tree_of t)) None false (told_of_both (told inner) (told own))
+    → Known token t (nodes_of (tree_of t)) None false (reported_of_both (reported inner) (reported own))
     ≡ seen (values.node token t width sound inner own)
 faulty_node token t width sound inner own small e =
     let v : values.Value = values.node token t width sound inner own in
-    let clash : told (inner ++ own) ≡ told_of_both (told inner) (told own) = told-append inner own in
+    let clash : reported (inner ++ own) ≡ reported_of_both (reported inner) (reported own) = reported-append token_of rank_of inner own in
     sym (seen_small v small ∙ rw (clash, e) refl)
 
 mem_nodes : (width : ℕ) (t : Term) → nodes_of (tree_of (term.Mem width t)) ≡ 1 + nodes_of (tree_of t)
@@ -133,19 +132,6 @@ un_counted op nodes t v n e = rw e (omega (arith, un_nodes op v.term))
 pub bin_counted : (op : Op) (nodes more : ℕ) (t u : Term) (v w : values.Value) → nodes ≡ nodes_in v → more ≡ nodes_in w
     → t ≡ v.term → u ≡ w.term → nodes + more + 1 ≡ nodes_of (tree_of (term.Bin op t u))
 bin_counted op nodes more t u v w n m e f = rw (e, f) (omega (arith, bin_nodes op v.term w.term))
-
--- a number whose literal has no fault is a word
-pub literal_fits : (value bits : Number) → None ≡ told (literal_faults value bits) → value.value < 2 ^ 64
-literal_fits value bits e = fits_by (width_in bits) refl (none_told (literal_faults value bits) e) where
-  width_small : (w : ℕ) → width_in bits ≡ Some w → w ≤ 64
-  width_small w p = grind (arith, common_steps)
-
-  fits_by : (w : Option ℕ) → width_in bits ≡ w → is_empty ((if is_there w then [] else clash bits.token bits.value 64 ∷ []) ++ fit_faults value w) ≡ true → value.value < 2 ^ 64
-  fits_by None p h = absurd (cc)
-  fits_by (Some w) p h =
-      let below : value.value < 2 ^ w = grind (arith, common_steps) in
-      let larger : 2 ^ w ≤ 2 ^ 64 = pow_mono (width_small w p) in
-      omega arith
 
 pub ruleset trees = (
   tree_of-num,

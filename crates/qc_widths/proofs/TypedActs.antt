@@ -1,5 +1,5 @@
 -- Each effect without faults comes to well typed effects, where its widths don't clash.
-use Rattle.std.specs.Prelude.{ℕ, ◌≡◌, ◌≢◌, ◌≤◌, Bool, true, false, if◌then◌else◌, List, [], ◌∷◌, ◌++◌, length, map, Option, None, Some, IfSome}
+use Rattle.std.specs.Prelude.{ℕ, ◌≡◌, ◌≢◌, ◌≤◌, Bool, true, false, if◌then◌else◌, List, [], ◌∷◌, ◌++◌, length, map, Option, None, Some, IfSome, is_some}
 use Rattle.std.specs.List.{AllByRecursion, flat_map}
 use Rattle.std.specs.Option.{option_map}
 use Rattle.std.specs.Str.{bytes_eq}
@@ -10,7 +10,6 @@ use Rattle.std.proofs.lemmas.List.Elements.{recursion_from_All}
 use Rattle.std.proofs.lemmas.Slice.Eq.{bytes_eq-Decides}
 use Rattle.qc_words.specs.declared.operator.Op.{Op}
 use Rattle.qc_words.specs.declared.operator.Op.TheVariants as op
-use Rattle.qc_names.specs.Tables.{is_there}
 use Rattle.qc_terms.specs.State.{Context}
 use Rattle.qc_terms.specs.Tree.{tree_of, width_of, Binary, tree_of-bin}
 use Rattle.qc_terms.specs.Typing.{IsTyped, IsAccessWidth, TakesWidth}
@@ -19,10 +18,10 @@ use Rattle.qc_terms.specs.declared.term.Dest.TheVariants as dest
 use Rattle.qc_terms.specs.declared.term.Term.{Term}
 use Rattle.qc_terms.specs.declared.term.Term.TheVariants as term
 use Rattle.qc_descr.specs.declared.description.OperandKind.{OperandKind}
-use Rattle.qc_descr.specs.Law.Bits.{each_append}
+use Rattle.qc_lists.specs.Law.Lists.{each_append}
 use Rattle.qc_descr.specs.Valid.{NamesOperands, NamesDest}
-use Rattle.qc_text.specs.declared.cursor.Ident.{Ident}
-use Rattle.qc_text.specs.declared.number.Number.{Number}
+use Rattle.qc_grammar.specs.declared.cursor.Ident.{Ident}
+use Rattle.qc_grammar.specs.declared.cursor.Number.{Number}
 use Rattle.qc_lrtl.specs.declared.syntax.Expr.{Expr}
 use Rattle.qc_lrtl.specs.declared.syntax.Guard.{Guard}
 use Rattle.qc_lrtl.specs.declared.syntax.Effect.{Effect}
@@ -38,9 +37,9 @@ use Rattle.qc_widths.specs.Values.{Value, bits_of, mismatch, test}
 use Rattle.qc_widths.specs.Scopes.{Act, Bound, argument, operand, function, Signature, Meaning, Scope, Names, bound_in, local_in, meaning_in, takes, operator_named, cell_faults}
 use Rattle.qc_widths.specs.Expressions.{Expression, expression_of, value_of, faults_in, target_of, target_of_bound, bindings, argument_faults, plain_faults}
 use Rattle.qc_widths.specs.Effects.{act_of, act_on, act_on_memory, acts_of_meaning, acts_of_simple, joined, guarded, acts_under, acts_of_effect, acts_of, fits_target_of, fits_target, target_faults, effects_of, effects_faults, simple_faults, guard_faults, effect_faults, is_named, targets_at, targets_of, simple_targets, effect_targets}
-use Rattle.qc_widths.specs.Typed.{IsTypedValue, IsGood, IsTypedTarget, IsGoodBound, IsGoodAct, IsGoodMeaning, IsGoodScope, MatchesLocal, Matches}
+use Rattle.qc_widths.proofs.Typed.{IsTypedValue, IsGood, IsTypedTarget, IsGoodBound, IsGoodAct, IsGoodMeaning, IsGoodScope, MatchesLocal, Matches}
 use Rattle.qc_widths.proofs.TypedNodes.{none_of, no_mismatch, is_fine_access}
-use Rattle.qc_widths.proofs.Fine.{AreFound, IfThere, IsFineHere, AreThere, local, signature, meaning, suits, tested, unknown, typed_target}
+use Rattle.qc_widths.proofs.Fine.{AreFound, IsFineHere, AreThere, local, signature, meaning, suits, tested, unknown, typed_target}
 use Rattle.qc_widths.proofs.TypedRegisters.{fine_cell}
 use Rattle.qc_widths.proofs.Typing.{fine}
 
@@ -49,7 +48,7 @@ same_bytes xs = (bytes_eq-Decides xs xs).1 refl
 
 -- what a name stands for is a register, if it is an argument
 abbrev pub IsThere : Option Bound → Type 0
-IsThere (Some (argument v target)) = is_there target ≡ true
+IsThere (Some (argument v target)) = is_some target ≡ true
 IsThere _ = Unit {0}
 
 takes_effects : (s : Signature) (count : ℕ) → takes true s count ≡ true
@@ -170,7 +169,7 @@ module _ (context : Context) (kinds : List OperandKind) (names : Names) (scope :
 
   there_case : (l : Option Local) (b : Option Bound)
       → AreFound (λ x y. MatchesLocal x y × IsGoodBound context kinds y) l b → fits_target_of l ≡ true → IsThere b
-      → is_there (target_of_bound b) ≡ true
+      → is_some (target_of_bound b) ≡ true
   there_case None b f e there = cc e
   there_case (Some (applied k)) b f e there = cc e
   there_case (Some (plain fits)) None f e there = absurd f
@@ -180,7 +179,7 @@ module _ (context : Context) (kinds : List OperandKind) (names : Names) (scope :
 
   -- a name that fits as a target is a register, if the argument that it may stand for is one
   there_is : (bare : Option Ident) → fits_target names bare ≡ true
-      → ((name : Ident) → bare ≡ Some name → IsThere (bound_in scope name.text)) → is_there (target_of scope bare) ≡ true
+      → ((name : Ident) → bare ≡ Some name → IsThere (bound_in scope name.text)) → is_some (target_of scope bare) ≡ true
   there_is None e there = cc e
   there_is (Some name) e there = there_case (local_in names name.text) (bound_in scope name.text)
       (local context kinds names scope matches good name.text) e (there name refl)
@@ -212,7 +211,7 @@ module _ (context : Context) (kinds : List OperandKind) (names : Names) (scope :
 
   use_case : (l : Option Local) (b : Option Bound) (o : Option Op) (m : Option Meaning) (token : ℕ)
       (args : List Expr) → AreFound (λ x y. MatchesLocal x y × IsGoodBound context kinds y) l b
-      → IfThere (IsGoodMeaning context kinds) m
+      → IfSome m (IsGoodMeaning context kinds)
       → effects_faults names (effects_of l o (option_map (λ x. x.signature) m) (length args)) token
       (map expression_of args) ≡ []
       → ((name : List ℕ) → targets_of name (effects_of l o (option_map (λ x. x.signature) m) (length args))
@@ -259,7 +258,7 @@ module _ (context : Context) (kinds : List OperandKind) (names : Names) (scope :
   abbrev pub AreTargetsThere : (List ℕ → List ℕ) → Type 0
   AreTargetsThere targets = (name : List ℕ) → targets name ≢ [] → IsThere (bound_in scope name)
 
-  target_there : (o : Option Target) → is_there o ≡ true → IfSome o (IsTypedTarget context kinds) → (value : Value)
+  target_there : (o : Option Target) → is_some o ≡ true → IfSome o (IsTypedTarget context kinds) → (value : Value)
       → IsGood context kinds value → IsGoodAct context kinds (act_on o value)
   target_there None e typed value v = cc e
   target_there (Some target) e typed value v = target_act context kinds target typed value v
@@ -298,7 +297,7 @@ module _ (context : Context) (kinds : List OperandKind) (names : Names) (scope :
       let parts : ((if fits_target names (Some name) then [] else UnknownName name.token ∷ []) ≡ [])
       × (faults_in names value ≡ []) =
       none_of (if fits_target names (Some name) then [] else UnknownName name.token ∷ []) (faults_in names value) e in
-      let is : is_there (target_of scope (Some name)) ≡ true =
+      let is : is_some (target_of scope (Some name)) ≡ true =
       there_is (Some name) (tested (fits_target names (Some name)) (UnknownName name.token) parts.0)
       (λ other same. there other.text
       (subst (λ (n : Ident). (if bytes_eq name.text n.text then name.token ∷ [] else []) ≢ []) (same_ident name other same)

@@ -1,11 +1,10 @@
 -- Each node over well typed parts is well typed, where it has no clash.
-use Rattle.std.specs.Prelude.{ℕ, ◌≡◌, ◌≤◌, ◌<◌, ◌^◌, ◌+◌, min, Bool, true, false, ◌&&◌, cond, if◌then◌else◌, List, [], ◌∷◌, ◌++◌, Option, Some}
+use Rattle.std.specs.Prelude.{ℕ, ◌≡◌, ◌≤◌, ◌<◌, ◌^◌, ◌+◌, min, Bool, true, false, ◌&&◌, cond, if◌then◌else◌, List, [], ◌∷◌, ◌++◌, Option, Some, is_some}
 use Rattle.std.proofs.Common.{refl, ap, sym, ◌∙◌, subst, arith}
 use Rattle.std.proofs.lemmas.Grind.{common_steps}
 use Rattle.qc_words.specs.declared.operator.Op.{Op}
 use Rattle.qc_words.specs.declared.operator.Op.TheVariants as op
 use Rattle.qc_words.specs.Operators.{Accepts, is_unary, result_width_of}
-use Rattle.qc_names.specs.Tables.{is_there}
 use Rattle.qc_terms.specs.declared.term.Term.TheVariants as term
 use Rattle.qc_terms.specs.State.{Context}
 use Rattle.qc_terms.specs.declared.term.Term.{Term}
@@ -13,11 +12,11 @@ use Rattle.qc_terms.specs.Tree.{Unary, Binary, Load, tree_of, width_of, tree_of-
 use Rattle.qc_terms.specs.Typing.{IsTyped, IsAccessWidth}
 use Rattle.qc_descr.specs.declared.description.OperandKind.{OperandKind}
 use Rattle.qc_descr.specs.Valid.{NamesOperands}
-use Rattle.qc_text.specs.declared.number.Number.{Number}
+use Rattle.qc_grammar.specs.declared.cursor.Number.{Number}
 use Rattle.qc_widths.specs.declared.faults.WidthFault.{WidthFault}
 use Rattle.qc_widths.specs.Numbers.{is_empty, width_in, width_faults, fit_faults, literal_faults, access_faults, access_width}
 use Rattle.qc_widths.specs.Values.{Value, bits_of, faulty, leaf, node, mismatch, excess, past_end, test, literal, input, after, load, extension, slice, unary, binary, width_of_operator}
-use Rattle.qc_widths.specs.Typed.{IsTypedValue, IsGood}
+use Rattle.qc_widths.proofs.Typed.{IsTypedValue, IsGood}
 
 pub none_of : {A : Type 0} (xs ys : List A) → xs ++ ys ≡ [] → (xs ≡ []) × (ys ≡ [])
 none_of [] ys e = (refl, e)
@@ -149,9 +148,9 @@ module _ (context : Context) (kinds : List OperandKind) where
       let t : Term = term.Un (o (bits_of (width_in bits))) arg.term in
       let tree : tree_of t ≡ Unary (o bits.value) (tree_of arg.term) =
       ap (λ w. tree_of (term.Un (o (bits_of w)) arg.term)) width.0 ∙ tree_of-un (o bits.value) arg.term in
-      typed_node token t (width_in bits) (arg.sound && is_there (width_in bits)) arg.clashes
+      typed_node token t (width_in bits) (arg.sound && is_some (width_in bits)) arg.clashes
       (excess arg.token arg.width (width_in bits))
-      (ap (λ b. b && is_there (width_in bits)) inner.sound ∙ ap is_there width.0) parts.1
+      (ap (λ b. b && is_some (width_in bits)) inner.sound ∙ ap is_some width.0) parts.1
       (width.0 ∙ ap Some (sym (result bits.value (width_of (tree_of arg.term)))) ∙ ap (λ x. Some (width_of x)) (sym tree))
       (subst (λ x. width_of x ≤ 64) (sym tree)
       (subst (λ n. n ≤ 64) (sym (result bits.value (width_of (tree_of arg.term)))) width.2))
@@ -174,9 +173,9 @@ module _ (context : Context) (kinds : List OperandKind) where
       let tree : tree_of t ≡ Unary (op.Slice (min low.value 64) bits.value) (tree_of arg.term) =
       ap (λ w. tree_of (term.Un (op.Slice (min low.value 64) (bits_of w)) arg.term)) width.0
       ∙ tree_of-un (op.Slice (min low.value 64) bits.value) arg.term in
-      typed_node token t (width_in bits) (arg.sound && is_there (width_in bits)) arg.clashes
+      typed_node token t (width_in bits) (arg.sound && is_some (width_in bits)) arg.clashes
       (past_end arg.token arg.width low.value (width_in bits))
-      (ap (λ b. b && is_there (width_in bits)) inner.sound ∙ ap is_there width.0) parts.1
+      (ap (λ b. b && is_some (width_in bits)) inner.sound ∙ ap is_some width.0) parts.1
       (width.0 ∙ ap (λ x. Some (width_of x)) (sym tree)) (subst (λ x. width_of x ≤ 64) (sym tree) width.2)
       (subst (IsTyped context) (sym tree) (refl, omega (arith, within, inner.most), inner.typed))
       (subst (NamesOperands context.word kinds) (sym tree) inner.names)

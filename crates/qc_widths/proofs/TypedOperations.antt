@@ -1,11 +1,12 @@
 -- What an instruction without faults does is well typed, shows one thing at most, and names operands as what they are.
-use Rattle.std.specs.Prelude.{ℕ, suc, ◌≡◌, ◌≤◌, ◌+◌, true, cond, List, [], ◌∷◌, ◌++◌, length, map, drop, slice_get, slice_index, ◌⊎◌, count_by, All, Option, None, Some, IfSome}
+use Rattle.std.specs.Prelude.{ℕ, suc, ◌≡◌, ◌≤◌, ◌+◌, true, cond, List, [], ◌∷◌, ◌++◌, length, map, drop, slice_get, slice_index, ◌⊎◌, count_by, All, Option, None, Some, IfSome, is_some}
 use Rattle.std.specs.List.{AllByRecursion, flat_map}
 use Rattle.std.proofs.Common.{refl, ap, sym, ◌∙◌, subst, arith, inl, inr, append_assoc}
 use Rattle.std.specs.Str.{bytes_eq}
 use Rattle.std.proofs.lemmas.List.Sums.{sum_by-append}
 use Rattle.std.proofs.lemmas.List.Elements.{All-from_recursion}
-use Rattle.qc_names.specs.Tables.{is_there}
+use Rattle.qc_widths.specs.TextFaults.{repeated, kind_faults, acts_of_instruction, rtl_of, limit_faults, clashes_within, instruction_faults}
+use Rattle.qc_widths.specs.Faults.{unknown_unless}
 use Rattle.qc_terms.specs.State.{Context}
 use Rattle.qc_terms.specs.Tree.{width_of, tree_of-imm}
 use Rattle.qc_terms.specs.Typing.{IsTyped, IsTypedEffect, IsTypedRtl, HasOneEvent, is_event}
@@ -14,7 +15,7 @@ use Rattle.qc_terms.specs.declared.term.Place.TheVariants as place
 use Rattle.qc_terms.specs.declared.term.Term.TheVariants as term
 use Rattle.qc_descr.specs.declared.description.OperandKind.{OperandKind}
 use Rattle.qc_descr.specs.declared.description.OperandKind.TheVariants as kind
-use Rattle.qc_descr.specs.Law.Places.{slice_get-append_right}
+use Rattle.qc_lists.specs.Law.Lists.{slice_get-append_right}
 use Rattle.qc_descr.specs.Valid.{NamesOperands, EffectNames}
 use Rattle.qc_lrtl.specs.declared.syntax.Effect.{Effect}
 use Rattle.qc_lrtl.specs.declared.syntax.Operand.{Operand}
@@ -29,8 +30,8 @@ use Rattle.qc_widths.specs.Values.{bits_of, leaf}
 use Rattle.qc_widths.specs.Scopes.{Act, operand, Facts, Meaning, Scope, Names, named, local_bound, space_named, target_of_operand}
 use Rattle.qc_widths.specs.Effects.{effect_of, clashes_of_act, effect_faults, effect_events}
 use Rattle.qc_widths.specs.Declarations.{facts_of_operand, register_of, fits_as_target, locals_of_operands, bound_operands, names_for, scope_for, signatures_of}
-use Rattle.qc_widths.specs.Machine.{kind_of, kind_faults, known_or, limit_faults, clashes_within, instruction_faults, acts_of_instruction, rtl_of, repeated}
-use Rattle.qc_widths.specs.Typed.{IsComplete, IsTypedValue, IsTypedTarget, IsGoodBound, IsGoodAct, IsGoodScope, MatchLocals, Matches}
+use Rattle.qc_widths.specs.Machine.{kind_of}
+use Rattle.qc_widths.proofs.Typed.{IsComplete, IsTypedValue, IsTypedTarget, IsGoodBound, IsGoodAct, IsGoodScope, MatchLocals, Matches}
 use Rattle.qc_widths.proofs.TypedNodes.{none_of, by_cond, is_width}
 use Rattle.qc_widths.proofs.TypedRegisters.{IsSpace, found_space, typed_read}
 use Rattle.qc_widths.proofs.TypedActs.{IsThere, good_effects}
@@ -44,7 +45,7 @@ kinds_in facts operands = map (λ o. kind_of (facts_of_operand facts o.kind)) op
 module _ (context : Context) (facts : Facts) (complete : IsComplete facts context) (kinds : List OperandKind) where
   -- what an operand of a kind without faults is
   register_case : (number token : ℕ) (o : Option (ℕ × SpaceFacts))
-      → ((i : ℕ) (s : SpaceFacts) → o ≡ Some (i, s) → IsSpace context i s) → known_or o token ≡ []
+      → ((i : ℕ) (s : SpaceFacts) → o ≡ Some (i, s) → IsSpace context i s) → unknown_unless (is_some o) token ≡ []
       → slice_get kinds number ≡ Some (kind_of (register_of o))
       → IsGoodBound context kinds (operand number (register_of o))
   register_case number token None space e at = cc e
@@ -63,7 +64,7 @@ module _ (context : Context) (facts : Facts) (complete : IsComplete facts contex
 
   typed_immediate : (number bits token : ℕ) → bits ≤ 64
       → ((slice_get kinds number ≡ Some (kind.Imm bits))
-      ⊎ ((slice_get kinds number ≡ Some kind.Address) × (bits ≡ context.word)))
+      ⊎ ((slice_get kinds number ≡ Some kind.Addr) × (bits ≡ context.word)))
       → IsTypedValue context kinds (leaf token (term.Imm number bits) (Some bits))
   typed_immediate number bits token small names = record {
     sound = refl;
@@ -113,10 +114,10 @@ module _ (context : Context) (facts : Facts) (complete : IsComplete facts contex
       longer (y ∷ xs) x = ap suc (longer xs x)
 
   match_operand : (number : ℕ) (k : raw.OperandKind)
-      → fits_as_target k ≡ is_there (target_of_operand number (facts_of_operand facts k))
+      → fits_as_target k ≡ is_some (target_of_operand number (facts_of_operand facts k))
   match_operand number (Register space) = by_space (space_named facts space.text)
     where
-      by_space : (o : Option (ℕ × SpaceFacts)) → true ≡ is_there (target_of_operand number (register_of o))
+      by_space : (o : Option (ℕ × SpaceFacts)) → true ≡ is_some (target_of_operand number (register_of o))
       by_space None = refl
       by_space (Some s) = refl
   match_operand number (RawImmediate token bits) = refl

@@ -1,14 +1,13 @@
 -- Uses of functions.
-use Rattle.std.specs.Prelude.{ℕ, zero, suc, ◌≡◌, ◌+◌, ◌<◌, Bool, true, false, ◌&&◌, nat_eq, cond, if◌then◌else◌, List, [], ◌∷◌, ◌++◌, length, map, slice_get, Option, None, Some}
+use Rattle.std.specs.Prelude.{ℕ, zero, suc, ◌≡◌, ◌+◌, ◌<◌, Bool, true, false, ◌&&◌, nat_eq, cond, if◌then◌else◌, List, [], ◌∷◌, ◌++◌, length, map, slice_get, Option, None, Some, is_some}
 use Rattle.std.specs.List.{list_all}
 use Rattle.std.proofs.Common.{refl, ap, sym, subst, ◌∙◌, arith, get_or, eq-eqb, inl, inr}
 use Rattle.std.proofs.lemmas.Bool.{cases_lt}
 use Rattle.std.proofs.lemmas.Grind.{common_steps}
 use Rattle.std.proofs.lemmas.List.{length-map}
-use Rattle.qc_names.specs.Tables.{is_there}
-use Rattle.qc_descr.specs.Law.Places.{slice_get-append_left, slice_get-append_right}
+use Rattle.qc_lists.specs.Law.Lists.{slice_get-append_left, slice_get-append_right}
 use Rattle.qc_words.specs.declared.operator.Op.{Op}
-use Rattle.qc_text.specs.declared.cursor.Ident.{Ident}
+use Rattle.qc_grammar.specs.declared.cursor.Ident.{Ident}
 use Rattle.qc_lrtl.specs.declared.syntax.Expr.{Expr}
 use Rattle.qc_lrtl.specs.declared.syntax.Param.{Param}
 use Rattle.qc_widths.specs.declared.scope.Bound as code
@@ -18,11 +17,11 @@ use Rattle.qc_lrtl.specs.declared.syntax.Effect.{Effect}
 use Rattle.qc_widths.specs.Effects.{acts_of, acts_of_meaning}
 use Rattle.qc_widths.specs.Declarations.{arity_of, bound_params, meaning_of_effects, meaning_of_function, scope_for}
 use Rattle.qc_widths.specs.Expressions.{Expression, bindings, expression_of, use_of_bound, use_of_operator, use_of_meaning, function_of_meaning, value_of}
-use Rattle.qc_widths.specs.Evaluated.{IsCallee, AreBound, AreBelow, IsBound, IsBoundBelow, binding}
+use Rattle.qc_widths.specs.Inner.KeptValues.{IsCallee, AreBound, AreBelow, IsBound, IsBoundBelow, binding}
 use Rattle.qc_widths.specs.Values as values
 use Rattle.qc_words.specs.Operators.{is_unary}
 use Rattle.qc_widths.specs.declared.value.Value.TheVariants.{Huge}
-use Rattle.qc_widths.specs.Evaluated.{seen, nodes_in}
+use Rattle.qc_widths.specs.Inner.KeptValues.{seen, nodes_in}
 use Rattle.qc_widths.proofs.Seen.{huge_of, huge_bin, seen_large}
 
 none_some : {A : Type 0} (x : A) → None ≡ Some x → ⊥
@@ -88,7 +87,7 @@ other_takes_none facts earlier name params body args h =
 -- a plain function is no named effects, and has as many parameters
 pub plain_no_effects : (m : Meaning) (arity : ℕ) → is_plain m.signature arity ≡ true → m.signature.effects ≡ true → ⊥
 plain_no_effects m arity e h = false_true (sym (ap (λ x. cond x false (nat_eq (length m.signature.params) arity
-    && list_all (λ p. cond (is_there p) false true) m.signature.params)) h) ∙ e)
+    && list_all (λ p. cond (is_some p) false true) m.signature.params)) h) ∙ e)
 
 and_left : (a b : Bool) → (a && b) ≡ true → a ≡ true
 and_left true b e = refl
@@ -101,7 +100,7 @@ pub plain_count : (facts : Facts) (earlier : List Meaning) (name : Ident) (param
     → is_plain (meaning_of_function facts earlier name params body).signature arity ≡ true → length params ≡ arity
 plain_count facts earlier name params body arity e =
     sym (length-map params arity_of) ∙ same_count (length (map arity_of params)) arity
-    (and_left (nat_eq (length (map arity_of params)) arity) (list_all (λ p. cond (is_there p) false true) (map arity_of params)) e)
+    (and_left (nat_eq (length (map arity_of params)) arity) (list_all (λ p. cond (is_some p) false true) (map arity_of params)) e)
 
 -- bindings one by one
 pub bindings_length : (spec : Scope) (params : List (Option ℕ)) (args : List Expression) → length params ≡ length args
@@ -129,9 +128,6 @@ pub map_at : {A B : Type 0} (f : A → B) (xs : List A) (k : ℕ) (x : A) → sl
 map_at f [] k x e = absurd (none_some x e)
 map_at f (y ∷ xs) zero x e = ap (λ z. Some (f z)) (some_of y x e)
 map_at f (y ∷ xs) (suc k) x e = map_at f xs k x e
-
-pub bound_none : (ms : List Meaning) (kept : List code.Bound) (bounds : List Bound) → AreBound ms 0 kept bounds
-bound_none ms kept bounds = record { each = λ k h. absurd (omega arith) }
 
 pub bound_push : (ms : List Meaning) (n : ℕ) (kept : List code.Bound) (bounds : List Bound) (b : code.Bound) (s : Bound)
     → length kept ≡ n → AreBound ms n kept bounds → slice_get bounds n ≡ Some s → IsBound ms b s

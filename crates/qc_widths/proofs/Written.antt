@@ -1,12 +1,12 @@
 -- The parts of what each sort of expression comes to.
 use Rattle.std.proofs.Common.{ℕ, ◌≡◌, ◌++◌, List, [], Some, None, map, ap}
-use Rattle.qc_text.specs.declared.cursor.Ident.{Ident}
-use Rattle.qc_text.specs.declared.number.Number.{Number}
+use Rattle.qc_grammar.specs.declared.cursor.Ident.{Ident}
+use Rattle.qc_grammar.specs.declared.cursor.Number.{Number}
 use Rattle.qc_lrtl.specs.declared.syntax.Expr.{Expr}
 use Rattle.qc_lrtl.specs.declared.syntax.Expr.TheVariants as expr
 use Rattle.qc_widths.specs.Scopes.{Names, local_in, cell_faults}
 use Rattle.qc_widths.specs.Numbers.{width_faults, literal_faults, access_faults}
-use Rattle.qc_widths.proofs.Told.{told-append, both_assoc, both-none}
+use Rattle.qc_names.specs.Law.Reported.{reported-append, both_assoc, both-none}
 use Rattle.qc_widths.specs.Expressions.{faults_in, alone_faults, use_faults, expression_of, first_token, bare_name, expression-literal, expression-input, expression-after, expression-mem, expression-zx, expression-sx, expression-slice, expression-name, expression-call, expression-cell}
 
 pub bare-literal : (value bits : Number) → bare_name (expr.Literal value bits) ≡ None
@@ -145,7 +145,7 @@ pub ruleset faults = (
   faults-name,
   faults-call,
   faults-cell,
-  told-append,
+  reported-append,
   both_assoc,
   both-none,
 )

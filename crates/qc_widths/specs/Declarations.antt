@@ -1,10 +1,9 @@
 -- The facts and the functions that a machine's items declare.
-use Rattle.std.specs.Prelude.{ℕ, suc, Bool, true, false, if◌then◌else◌, List, [], ◌∷◌, ◌++◌, map}
+use Rattle.std.specs.Prelude.{ℕ, suc, Bool, true, false, if◌then◌else◌, List, [], ◌∷◌, ◌++◌, map, is_some}
 use Rattle.std.specs.Prelude.{Option, None, Some}
 use Rattle.std.specs.List.{flat_map}
 use Rattle.std.specs.Option.{option_map}
-use Rattle.qc_text.specs.declared.cursor.Ident.{Ident}
-use Rattle.qc_names.specs.Tables.{is_there}
+use Rattle.qc_grammar.specs.declared.cursor.Ident.{Ident}
 use Rattle.qc_lrtl.specs.declared.syntax.Expr.{Expr}
 use Rattle.qc_lrtl.specs.declared.syntax.Effect.{Effect}
 use Rattle.qc_lrtl.specs.declared.syntax.Param.{Param}
@@ -126,7 +125,7 @@ place_of_function items name = place_of (placed_from 0 (λ n. n.text) (flat_map 
 -- the targets that a parameter of named effects stands for
 abbrev pub targets_of_param : Names → List Effect → Param → List ℕ
 targets_of_param names body p =
-    if is_there (arity_of p) then [] else flat_map (effect_targets names p.name.text) body
+    if is_some (arity_of p) then [] else flat_map (effect_targets names p.name.text) body
 
 abbrev pub signature_of_function : Ident → List Param → Signature
 signature_of_function name params = record {

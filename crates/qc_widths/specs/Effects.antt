@@ -1,4 +1,4 @@
--- What effects come to where they are written, and the faults that are told of them without their uses.
+-- What effects come to where they are written, and the faults that are reported of them without their uses.
 use Rattle.std.specs.Prelude.{ℕ, Bool, true, false, if◌then◌else◌, List, [], ◌∷◌, ◌++◌, length, map}
 use Rattle.std.specs.Prelude.{Option, None, Some}
 use Rattle.std.specs.List.{flat_map}
@@ -10,8 +10,8 @@ use Rattle.qc_terms.specs.declared.term.Dest.TheVariants as dest
 use Rattle.qc_terms.specs.declared.term.Effect as terms
 use Rattle.qc_terms.specs.declared.term.Term.{Term}
 use Rattle.qc_terms.specs.declared.term.Term.TheVariants as term
-use Rattle.qc_text.specs.declared.cursor.Ident.{Ident}
-use Rattle.qc_text.specs.declared.number.Number.{Number}
+use Rattle.qc_grammar.specs.declared.cursor.Ident.{Ident}
+use Rattle.qc_grammar.specs.declared.cursor.Number.{Number}
 use Rattle.qc_lrtl.specs.declared.syntax.Expr.{Expr}
 use Rattle.qc_lrtl.specs.declared.syntax.Guard.{Guard}
 use Rattle.qc_lrtl.specs.declared.syntax.Effect.{Effect}
@@ -37,7 +37,7 @@ act_of to address value width = record {
   rest = address ++ (value.clashes ++ test value width);
 }
 
--- an effect on a register; where there is none its fault is told elsewhere
+-- an effect on a register; where there is none its fault is reported elsewhere
 abbrev pub act_on : Option Target → Value → Act
 act_on None value = act_of dest.Pc [] value None
 act_on (Some target) value = act_of (dest.Reg target.place) [] value target.width

@@ -1,13 +1,14 @@
--- What an expression comes to where it is written, and the faults that are told of it without its uses.
+-- What an expression comes to where it is written, and the faults that are reported of it without its uses.
 use Rattle.std.specs.Prelude.{ℕ, ◌≡◌, Bool, false, nat_eq, if◌then◌else◌, List, [], ◌∷◌, ◌++◌, length, map}
 use Rattle.std.specs.Prelude.{Option, None, Some}
 use Rattle.std.specs.List.{flat_map}
 use Rattle.std.proofs.Common.{ap, sym, ◌∙◌}
+use Rattle.qc_widths.specs.Faults.{unknown_unless}
 use Rattle.qc_words.specs.declared.operator.Op.{Op}
 use Rattle.qc_words.specs.declared.operator.Op.TheVariants.{Zx, Sx}
 use Rattle.qc_terms.specs.declared.term.Term.TheVariants as term
-use Rattle.qc_text.specs.declared.cursor.Ident.{Ident}
-use Rattle.qc_text.specs.declared.number.Number.{Number}
+use Rattle.qc_grammar.specs.declared.cursor.Ident.{Ident}
+use Rattle.qc_grammar.specs.declared.cursor.Number.{Number}
 use Rattle.qc_lrtl.specs.declared.syntax.Expr.{Expr, fold-Expr, fold-roll-Expr}
 use Rattle.qc_lrtl.specs.declared.syntax.Expr.TheVariants as expr
 use Rattle.qc_lrtl.specs.declared.syntax.Expr.TheOpen.{Expr-F, Literal, Input, After, Mem, Zx as ZxF, Sx as SxF, Slice, Name, Call, Cell}
@@ -141,9 +142,6 @@ argument_faults names (Some arity ∷ params) (arg ∷ args) =
     (if is_function names arity arg.bare then [] else UnknownName arg.first ∷ []) ++ argument_faults names params args
 
 -- a use of a name that is no function of so many arguments, and the faults of the arguments
-abbrev pub known_or : Bool → ℕ → List WidthFault
-known_or known token = if known then [] else UnknownName token ∷ []
-
 abbrev pub use_faults_of_signature : Names → Bool → Option Signature → ℕ → List Expression → List WidthFault
 use_faults_of_signature names effects None token args = UnknownName token ∷ plain_faults names args
 use_faults_of_signature names effects (Some s) token args =
@@ -153,12 +151,12 @@ use_faults_of_signature names effects (Some s) token args =
 abbrev pub use_faults_of_operator : Names → Option Op → Option Signature → ℕ → List Expression → List WidthFault
 use_faults_of_operator names None s token args = use_faults_of_signature names false s token args
 use_faults_of_operator names (Some op) s token args =
-    known_or (nat_eq (operands_of op) (length args)) token ++ plain_faults names args
+    unknown_unless (nat_eq (operands_of op) (length args)) token ++ plain_faults names args
 
 abbrev pub use_faults_of_local : Names → Option Local → Option Op → Option Signature → ℕ → List Expression → List WidthFault
 use_faults_of_local names None op s token args = use_faults_of_operator names op s token args
 use_faults_of_local names (Some (applied arity)) op s token args =
-    known_or (nat_eq arity (length args)) token ++ plain_faults names args
+    unknown_unless (nat_eq arity (length args)) token ++ plain_faults names args
 use_faults_of_local names (Some (plain fits)) op s token args = UnknownName token ∷ plain_faults names args
 
 abbrev pub use_faults : Names → Ident → List Expression → List WidthFault

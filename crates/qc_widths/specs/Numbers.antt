@@ -1,8 +1,7 @@
 -- The numbers of a text that are widths, and the numbers of literals.
-use Rattle.std.specs.Prelude.{ℕ, zero, suc, ◌/◌, ◌^◌, min, Bool, true, false, ◌&&◌, ◌||◌, nat_eq, nat_lt, nat_le}
+use Rattle.std.specs.Prelude.{ℕ, zero, suc, ◌/◌, ◌^◌, min, Bool, true, false, ◌&&◌, ◌||◌, nat_eq, nat_lt, nat_le, is_some}
 use Rattle.std.specs.Prelude.{if◌then◌else◌, List, [], ◌∷◌, ◌++◌, Option, None, Some}
-use Rattle.qc_text.specs.declared.number.Number.{Number}
-use Rattle.qc_names.specs.Tables.{is_there}
+use Rattle.qc_grammar.specs.declared.cursor.Number.{Number}
 use Rattle.qc_widths.specs.declared.faults.WidthFault.{WidthFault}
 use Rattle.qc_widths.specs.declared.faults.WidthFault.TheVariants.{WidthClash}
 
@@ -19,7 +18,7 @@ abbrev pub width_in : Number → Option ℕ
 width_in n = if nat_le 1 n.value && nat_le n.value 64 then Some n.value else None
 
 abbrev pub width_faults : Number → List WidthFault
-width_faults n = if is_there (width_in n) then [] else clash n.token n.value 64 ∷ []
+width_faults n = if is_some (width_in n) then [] else clash n.token n.value 64 ∷ []
 
 -- how often a number can be halved until nothing is left, up to so often
 unfoldable pub halvings : ℕ → ℕ → ℕ

@@ -1,18 +1,17 @@
 -- What names stand for where an expression is written.
-use Rattle.std.specs.Prelude.{ℕ, Bool, true, false, ◌&&◌, nat_eq, nat_lt, if◌then◌else◌, cond, List, [], ◌∷◌, length, codes}
+use Rattle.std.specs.Prelude.{ℕ, Bool, true, false, ◌&&◌, nat_eq, nat_lt, if◌then◌else◌, cond, List, [], ◌∷◌, length, codes, is_some}
 use Rattle.std.specs.Prelude.{Option, None, Some}
 use Rattle.std.specs.List.{list_all}
 use Rattle.std.specs.Str.{bytes_eq}
 use Rattle.qc_words.specs.declared.operator.Op.{Op}
 use Rattle.qc_words.specs.declared.operator.Op.TheVariants as op
 use Rattle.qc_words.specs.Operators.{is_unary}
-use Rattle.qc_names.specs.Tables.{is_there}
 use Rattle.qc_terms.specs.declared.term.Dest.{Dest}
 use Rattle.qc_terms.specs.declared.term.Place.TheVariants as place
 use Rattle.qc_terms.specs.declared.term.Term.{Term}
 use Rattle.qc_terms.specs.declared.term.Term.TheVariants as term
-use Rattle.qc_text.specs.declared.cursor.Ident.{Ident}
-use Rattle.qc_text.specs.declared.number.Number.{Number}
+use Rattle.qc_grammar.specs.declared.cursor.Ident.{Ident}
+use Rattle.qc_grammar.specs.declared.cursor.Number.{Number}
 use Rattle.qc_widths.specs.declared.facts.Local.{Local}
 use Rattle.qc_widths.specs.declared.facts.OperandFacts.{OperandFacts}
 use Rattle.qc_widths.specs.declared.facts.OperandFacts.TheVariants.{Register as register, Immediate as immediate, Address as address}
@@ -27,7 +26,7 @@ abbrev pub named : {A : Type 0} → (A → List ℕ) → List A → List ℕ →
 named name_of [] name = None
 named name_of (x ∷ xs) name = cond (bytes_eq (name_of x) name) (Some x) (named name_of xs name)
 
--- the same, with its place in the list, where the list begins at this place
+-- the first of a list that has this name, with its place, where the list begins at this place
 abbrev pub placed_from : {A : Type 0} → ℕ → (A → List ℕ) → List A → List ℕ → Option (ℕ × A)
 placed_from at name_of [] name = None
 placed_from at name_of (x ∷ xs) name =
@@ -69,7 +68,7 @@ pub data Bound : Type 0 where
   operand : ℕ → OperandFacts → Bound
   function : ℕ → (ℕ → List Value → Value) → Bound
 
--- What is told of a declared function or of named effects without a use: the arity of each parameter that is a function,
+-- What is known of a declared function or of named effects without a use: the arity of each parameter that is a function,
 -- and of named effects for each parameter the tokens of the targets that it stands for, and the tokens of the effects
 -- that show something.
 pub record Signature : Type 0 where
@@ -100,7 +99,7 @@ pub record Scope : Type 0 where
   pub locals : List (List ℕ × Bound)
   pub functions : List Meaning
 
--- what is told of these without uses
+-- what is known of these without uses
 pub record Names : Type 0 where
   pub facts : Facts
   pub locals : List (List ℕ × Local)
@@ -124,7 +123,7 @@ signature_in names name = named (λ s. s.name) names.functions name
 
 -- a function of so many plain arguments
 abbrev pub is_plain : Signature → ℕ → Bool
-is_plain s arity = cond s.effects false (nat_eq (length s.params) arity && list_all (λ p. cond (is_there p) false true) s.params)
+is_plain s arity = cond s.effects false (nat_eq (length s.params) arity && list_all (λ p. cond (is_some p) false true) s.params)
 
 -- a function, or named effects, with so many parameters
 abbrev pub takes : Bool → Signature → ℕ → Bool

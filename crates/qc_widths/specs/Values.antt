@@ -1,18 +1,17 @@
 -- What expressions come to: terms with their widths.
-use Rattle.std.specs.Prelude.{ℕ, ◌+◌, min, Bool, true, false, ◌&&◌, nat_eq, nat_lt, if◌then◌else◌}
+use Rattle.std.specs.Prelude.{ℕ, ◌+◌, min, Bool, true, false, ◌&&◌, nat_eq, nat_lt, if◌then◌else◌, is_some}
 use Rattle.std.specs.Prelude.{List, [], ◌∷◌, ◌++◌, Option, None, Some}
 use Rattle.qc_words.specs.declared.operator.Op.{Op}
 use Rattle.qc_words.specs.declared.operator.Op.TheVariants.{Slice}
 use Rattle.qc_words.specs.Operators.{is_unary, result_width_of}
-use Rattle.qc_names.specs.Tables.{is_there}
 use Rattle.qc_terms.specs.declared.term.Term.{Term}
 use Rattle.qc_terms.specs.declared.term.Term.TheVariants as term
-use Rattle.qc_text.specs.declared.number.Number.{Number}
+use Rattle.qc_grammar.specs.declared.cursor.Number.{Number}
 use Rattle.qc_widths.specs.declared.faults.WidthFault.{WidthFault}
 use Rattle.qc_widths.specs.Numbers.{is_empty, clash, width_in, literal_faults, access_faults, access_width}
 
 -- An expression in which no function is left. Its token is that of its outermost node, by which a clash of its width is
--- told. It has no width where a fault stands in it, or where its width hangs on a number that is a fault. Its clashes
+-- reported. It has no width where a fault stands in it, or where its width hangs on a number that is a fault. Its clashes
 -- stand in post-order.
 pub record Value : Type 0 where
   pub token : ℕ
@@ -26,7 +25,7 @@ abbrev pub bits_of : Option ℕ → ℕ
 bits_of None = 1
 bits_of (Some width) = width
 
--- an expression in which a fault stands that is told elsewhere
+-- an expression in which a fault stands that is reported elsewhere
 abbrev pub faulty : ℕ → Value
 faulty token = record { token = token; term = term.Num 0 1; width = None; sound = false; clashes = [] }
 
@@ -86,13 +85,13 @@ load word token bits address =
 abbrev pub extension : (ℕ → Op) → ℕ → Number → Value → Value
 extension op token bits arg =
     node token (term.Un (op (bits_of (width_in bits))) arg.term) (width_in bits)
-    (arg.sound && is_there (width_in bits)) arg.clashes (excess arg.token arg.width (width_in bits))
+    (arg.sound && is_some (width_in bits)) arg.clashes (excess arg.token arg.width (width_in bits))
 
 -- a slice, which lies within its operand
 abbrev pub slice : ℕ → Number → Number → Value → Value
 slice token low bits arg =
     node token (term.Un (Slice (min low.value 64) (bits_of (width_in bits))) arg.term) (width_in bits)
-    (arg.sound && is_there (width_in bits)) arg.clashes (past_end arg.token arg.width low.value (width_in bits))
+    (arg.sound && is_some (width_in bits)) arg.clashes (past_end arg.token arg.width low.value (width_in bits))
 
 abbrev pub unary : Op → ℕ → Value → Value
 unary op token arg = node token (term.Un op arg.term) arg.width arg.sound arg.clashes []

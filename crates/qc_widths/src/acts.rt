@@ -3,8 +3,8 @@ ghost use Rattle.std.specs.Prelude.{◌≡◌, ◌++◌, ◌∷◌, [], Option, 
 ghost use Rattle.qc_descr.specs.Valid.{nodes_of_dest};
 ghost use Rattle.qc_terms.specs.declared.term.Dest.TheVariants as dest;
 ghost use Rattle.qc_widths.specs.Effects.{act_of, act_on, act_on_memory, guarded, joined as joined_of};
-ghost use Rattle.qc_widths.specs.Evaluated.{IsValue};
-ghost use Rattle.qc_widths.specs.Kept.{IsActs, more_under, nodes_under, under};
+ghost use Rattle.qc_widths.specs.Inner.KeptValues.{IsValue};
+ghost use Rattle.qc_widths.specs.Inner.KeptEffects.{IsActs, more_under, nodes_under, under};
 ghost use Rattle.qc_widths.specs.Scopes.{Act};
 ghost use Rattle.qc_widths.specs.Values as values;
 
@@ -12,11 +12,11 @@ use crate::facts::{Facts, Target};
 use crate::faults::WidthFault;
 use crate::nodes::{bits_of, mismatch};
 use crate::numbers::access_width;
-use crate::order::earlier;
 use crate::terms::copy_term;
-use crate::value::{LIMIT, Value};
+use crate::value::{MOST_NODES, Value};
+use qc_grammar::Number;
+use qc_names::earlier;
 use qc_terms::{Dest, Effect, Term};
-use qc_text::Number;
 use qc_words::{Op, Width};
 use sqlite_items::{Boxed, Items};
 use std::alloc::{AllocError, Global};
@@ -48,7 +48,7 @@ impl Acts {
 }
 
 /// No effects.
-#[tactic(auto, unfolding(crate::specs::Kept::seen_acts))]
+#[tactic(auto, unfolding(crate::specs::Inner::KeptEffects::seen_acts))]
 pub(crate) fn no_acts(alloc: Global) -> Acts
     ensures { IsActs result [] }
 {
@@ -146,7 +146,7 @@ pub(crate) fn act_on_word(
                 clash: later,
             } => {
                 let nodes = nodes.saturating_add(more);
-                if nodes > LIMIT {
+                if nodes > MOST_NODES {
                     return Ok(Acts::Huge);
                 }
                 let first = earlier(clash, mismatch(start, width, facts.word()));
@@ -194,7 +194,7 @@ pub(crate) fn joined(first: Acts, second: Acts) -> Result<Acts, AllocError>
                 clash: later,
             } => {
                 let nodes = nodes.saturating_add(rest);
-                if nodes > LIMIT {
+                if nodes > MOST_NODES {
                     return Ok(Acts::Huge);
                 }
                 effects.append(more)?;
@@ -325,7 +325,7 @@ pub(crate) fn guarded_acts(alloc: Global, guard: &Value, acts: Acts) -> Result<A
                     clash: first,
                 } => {
                     let nodes = guarded_nodes(nodes, *more, effects.as_slice());
-                    if nodes > LIMIT {
+                    if nodes > MOST_NODES {
                         return Ok(Acts::Huge);
                     }
                     let own = earlier(*first, mismatch(*token, *width, Some(Width::ONE)));

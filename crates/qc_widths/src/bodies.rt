@@ -2,20 +2,20 @@
 ghost use Rattle.std.specs.Prelude.{◌≡◌, ◌≤◌, ◌++◌, length, drop, map, take};
 ghost use Rattle.std.specs.List.{flat_map};
 ghost use Rattle.qc_widths.specs.declared.faults.WidthFault.TheVariants.{TwiceNamed};
-ghost use Rattle.qc_widths.specs.Faults.{told};
+ghost use Rattle.qc_widths.specs.Faults.{reported};
 ghost use Rattle.qc_widths.specs.Expressions.{faults_in};
 ghost use Rattle.qc_widths.specs.Effects.{effect_faults, effect_events};
 ghost use Rattle.qc_widths.specs.Declarations.{names_for};
-ghost use Rattle.qc_widths.specs.NamesAt.{names_at, locals_in, IsReady};
-ghost use Rattle.qc_widths.specs.Elaboration.{IsContext, names_of_params, names_of_operands, all_signatures};
+ghost use Rattle.qc_widths.specs.Inner.KeptNames.{names_at, locals_in, IsReady};
+ghost use Rattle.qc_widths.specs.Inner.Elaboration.{IsContext, names_of_params, names_of_operands, all_signatures};
 
 use crate::context::Context;
 use crate::faults::WidthFault;
 use crate::names::effects::{body_fault, twice_fault};
 use crate::names::expressions::expression_fault;
 use crate::names::{Locals, Names};
-use crate::order::earlier;
 use qc_lrtl::{Effect, Expr, Operand, Param};
+use qc_names::earlier;
 
 /// The names of a body that uses the first functions of this number.
 fn names_in<'a>(context: &Context<'a>, level: usize, locals: Locals<'a>) -> Names<'a>
@@ -35,7 +35,7 @@ fn names_in<'a>(context: &Context<'a>, level: usize, locals: Locals<'a>) -> Name
 }
 
 /// The fault of a function's body, which uses the first functions of this number.
-#[tactic(auto, unfolding(crate::specs::Elaboration::names_of_params))]
+#[tactic(auto, unfolding(crate::specs::Inner::Elaboration::names_of_params))]
 pub(crate) fn function_fault(
     context: &Context<'_>,
     level: usize,
@@ -44,13 +44,13 @@ pub(crate) fn function_fault(
 ) -> Option<WidthFault>
     requires context { IsContext context.now }
     requires level { level ≤ length (all_signatures context.now) }
-    ensures { result ≡ told (faults_in (names_of_params context.now level params.now) body.now) }
+    ensures { result ≡ reported (faults_in (names_of_params context.now level params.now) body.now) }
 {
     expression_fault(&names_in(context, level, Locals::Params(params)), body)
 }
 
 /// The fault of the body of named effects, which uses the first functions of this number.
-#[tactic(auto, unfolding(crate::specs::Elaboration::names_of_params))]
+#[tactic(auto, unfolding(crate::specs::Inner::Elaboration::names_of_params))]
 pub(crate) fn effects_fault(
     context: &Context<'_>,
     level: usize,
@@ -59,7 +59,7 @@ pub(crate) fn effects_fault(
 ) -> Option<WidthFault>
     requires context { IsContext context.now }
     requires level { level ≤ length (all_signatures context.now) }
-    ensures { result ≡ told (flat_map (effect_faults (names_of_params context.now level params.now)) body.now) }
+    ensures { result ≡ reported (flat_map (effect_faults (names_of_params context.now level params.now)) body.now) }
 {
     body_fault(&names_in(context, level, Locals::Params(params)), body)
 }
@@ -71,7 +71,7 @@ pub(crate) fn instruction_fault(
     body: &[Effect],
 ) -> Option<WidthFault>
     requires { IsContext context.now }
-    ensures { result ≡ told (flat_map (effect_faults (names_of_operands context.now operands.now)) body.now
+    ensures { result ≡ reported (flat_map (effect_faults (names_of_operands context.now operands.now)) body.now
         ++ map TwiceNamed (drop 1 (flat_map (effect_events (names_of_operands context.now operands.now)) body.now))) }
 {
     let names = names_in(

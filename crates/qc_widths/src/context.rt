@@ -4,7 +4,7 @@ use crate::functions::Functions;
 use crate::signatures::Signature;
 use qc_lrtl::Item;
 
-/// The items of a machine, the facts and the functions that they declare, and what is told of these without their uses.
+/// The items of a machine, the facts and the functions that they declare, and what is known of these without their uses.
 #[derive(Clone, Copy)]
 pub(crate) struct Context<'a> {
     pub facts: &'a Facts,

@@ -1,12 +1,14 @@
 //! Machines from their texts.
 ghost use Rattle.std.specs.Prelude.{◌≡◌, map, None, IfOk};
+ghost use Rattle.qc_widths.specs.TextFaults.{faults_of};
 ghost use Rattle.qc_descr.specs.Parts.{AreParts};
+ghost use Rattle.qc_lrtl.specs.Named.{AreNamed};
 ghost use Rattle.qc_widths.specs.Declarations.{facts_in, signatures_in};
-ghost use Rattle.qc_widths.specs.Faults.{told};
-ghost use Rattle.qc_widths.specs.Machine.{Elaborates, faults_of, machine_of};
-ghost use Rattle.qc_widths.specs.Elaboration.{OperationsUnless, faults_in_items, operations_in};
-ghost use Rattle.qc_widths.specs.Functions.{IsTableOf};
-ghost use Rattle.qc_widths.specs.Summaries.{summary};
+ghost use Rattle.qc_widths.specs.Faults.{reported};
+ghost use Rattle.qc_widths.specs.Machine.{Elaborates, machine_of};
+ghost use Rattle.qc_widths.specs.Inner.Elaboration.{OperationsUnless, faults_in_items, operations_in};
+ghost use Rattle.qc_widths.specs.Inner.FunctionTables.{IsTableOf};
+ghost use Rattle.qc_widths.specs.Inner.KeptSignatures.{summary};
 
 use crate::context::Context;
 use crate::facts::Facts;
@@ -14,12 +16,12 @@ use crate::faults::{WidthEnd, WidthFault};
 use crate::functions::Functions;
 use crate::given::{given, spaces_given};
 use crate::machine::Machine;
-use crate::order::earlier;
 use crate::progress::{Progress, elaborate_items};
 use crate::repeated::second_names;
 use crate::signatures::{Signature, signatures};
 use qc_descr::Operation;
 use qc_lrtl::{Item, RawMachine};
+use qc_names::earlier;
 use qc_text::Text;
 use sqlite_items::Items;
 use std::alloc::{AllocError, Global};
@@ -35,7 +37,7 @@ impl From<AllocError> for WidthEnd {
     }
 }
 
-/// The fault that is told of all items, and their operations, which are whole where no fault is told.
+/// The fault that is reported of all items, and their operations, which are whole where no fault is reported.
 fn fault_with_functions<'a>(
     alloc: Global,
     facts: &'a Facts,
@@ -46,7 +48,7 @@ fn fault_with_functions<'a>(
     requires facts { facts.now ≡ facts_in items.now }
     requires functions { IsTableOf items.now functions.now }
     requires signatures { signatures.now ≡ map summary (signatures_in facts.now items.now) }
-    ensures fault { IfOk result (λ r. r.0 ≡ told (faults_in_items items.now)) }
+    ensures fault { IfOk result (λ r. r.0 ≡ reported (faults_in_items items.now)) }
     ensures operations { IfOk result (λ r. OperationsUnless r.0 r.1 (operations_in items.now)) }
 {
     let context = Context {
@@ -71,7 +73,7 @@ fn fault_and_operations<'a>(
     items: &'a [Item],
 ) -> Result<(Option<WidthFault>, Items<Operation>), AllocError>
     requires { facts.now ≡ facts_in items.now }
-    ensures fault { IfOk result (λ r. r.0 ≡ told (faults_in_items items.now)) }
+    ensures fault { IfOk result (λ r. r.0 ≡ reported (faults_in_items items.now)) }
     ensures operations { IfOk result (λ r. OperationsUnless r.0 r.1 (operations_in items.now)) }
 {
     match Functions::new(alloc, items) {
@@ -92,7 +94,7 @@ fn machine(
 ) -> Result<Machine, AllocError>
     requires facts { facts.now ≡ facts_in raw.now.items }
     requires operations { operations ≡ operations_in raw.now.items }
-    requires fault { told (faults_of raw.now) ≡ None }
+    requires fault { reported (faults_of raw.now) ≡ None }
     ensures { IfOk result (λ machine. machine ≡ machine_of raw.now) }
 {
     Ok(Machine {
@@ -103,10 +105,11 @@ fn machine(
     })
 }
 
-/// The machine that a text means, or the fault that is told of it.
+/// The machine that a text means, or the fault that is reported of it.
 pub fn elaborate(alloc: Global, raw: &RawMachine) -> Result<Machine, WidthEnd>
+    requires named { AreNamed raw.now }
     ensures answer { Elaborates raw.now result }
-    ensures keeps { IfOk result (λ machine. AreParts machine.given machine.spaces machine.operations) }
+    ensures keeps { IfOk result (λ machine. AreParts machine.name machine.given machine.spaces machine.operations) }
 {
     let items = raw.items.as_slice();
     let facts = Facts::new(alloc, items)?;

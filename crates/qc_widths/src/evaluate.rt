@@ -1,13 +1,12 @@
 //! What an expression comes to where it is written, up to a limit of nodes.
-ghost use Rattle.std.specs.Prelude.{◌≡◌, ◌&&◌, nat_eq, ℕ, true, false, cond, List, length, map};
-ghost use Rattle.std.specs.Prelude.{Option, None, Some, IfOk};
+ghost use Rattle.std.specs.Prelude.{◌≡◌, ◌&&◌, nat_eq, ℕ, true, false, cond, List, length, map, is_some};
+ghost use Rattle.std.specs.Prelude.{Option, None, Some, IfOk, IfSome};
 ghost use Rattle.std.specs.List.{list_all};
-ghost use Rattle.std.specs.Option.{option_copied};
-ghost use Rattle.qc_names.specs.Tables.{is_there};
+ghost use Rattle.std.specs.Option.{option_copied, option_map};
 ghost use Rattle.qc_widths.specs.Declarations.{arity_of};
-ghost use Rattle.qc_widths.specs.Evaluated.{AreBelow, AreBound, IsBelow, IsBound, IsBoundBelow, IsCallee};
-ghost use Rattle.qc_widths.specs.Evaluated.{IsPlain, IsScope};
-ghost use Rattle.qc_widths.specs.Evaluated.{IsSettled, IsValue, apply_of, binding, meanings_of};
+ghost use Rattle.qc_widths.specs.Inner.KeptValues.{AreBelow, AreBound, IsBelow, IsBound, IsBoundBelow, IsCallee};
+ghost use Rattle.qc_widths.specs.Inner.KeptValues.{IsDeclared, IsPlain, IsScope, meaning_of_number};
+ghost use Rattle.qc_widths.specs.Inner.KeptValues.{IsSettled, IsValue, apply_of, binding, meanings_of};
 ghost use Rattle.qc_widths.specs.Expressions.{bare_name, bindings, expression_of, function_of, function_of_meaning};
 ghost use Rattle.qc_widths.specs.Expressions.{function_of_operator, target_of, target_of_bound, use_of, use_of_meaning};
 ghost use Rattle.qc_widths.specs.Expressions.{value_of, value_of_bound};
@@ -23,9 +22,9 @@ use crate::nodes::{
 use crate::operators::operator_named;
 use crate::scope::{Bound, Callee, Found, Locals, Scope};
 use crate::value::{Value, faulty};
+use qc_grammar::Ident;
 use qc_lrtl::{Expr, Item, Param};
 use qc_terms::Place;
-use qc_text::Ident;
 use qc_words::Op;
 use sqlite_items::Items;
 use std::alloc::{AllocError, Global};
@@ -162,6 +161,24 @@ fn callee_of_operator(arity: u128, op: Op) -> Callee
     }
 }
 
+/// The function or the named effects of a name that may be used in a scope, with its number.
+pub(crate) fn declared<'a>(scope: &Scope<'a>, name: &Ident) -> Option<(usize, &'a Item)>
+    requires { IsSettled scope.now }
+    ensures found { IfSome result (λ d. IsDeclared scope.now d.0 d.1.now) }
+    ensures means { (spec : SpecScope) → IsScope scope.now spec → meaning_in spec name.now.text
+        ≡ meaning_of_number (meanings_of scope.now) (option_map (λ d. d.0) result) }
+{
+    match scope.functions.find(scope.items, name.text.as_slice()) {
+        Some(number) => {
+            if number >= scope.level {
+                return None;
+            }
+            Some((number, scope.functions.item(scope.items, number)))
+        }
+        None => None,
+    }
+}
+
 /// A declared function as one of so many plain arguments.
 fn callee_of_declared(scope: &Scope<'_>, arity: u128, name: &Ident) -> Callee
     requires { IsSettled scope.now }
@@ -169,22 +186,17 @@ fn callee_of_declared(scope: &Scope<'_>, arity: u128, name: &Ident) -> Callee
     ensures function { (spec : SpecScope) → IsScope scope.now spec
         → IsCallee (meanings_of scope.now) arity result (function_of_meaning arity (meaning_in spec name.now.text)) }
 {
-    match scope.functions.find(scope.items, name.text.as_slice()) {
-        Some(number) => {
-            if number >= scope.level {
-                return Callee::Unknown;
-            }
-            match scope.functions.item(scope.items, number) {
-                Item::Function { params, .. } => {
-                    if are_so_many(params.as_slice(), arity) {
-                        Callee::Declared { number }
-                    } else {
-                        Callee::Unknown
-                    }
+    match declared(scope, name) {
+        Some((number, item)) => match item {
+            Item::Function { params, .. } => {
+                if are_so_many(params.as_slice(), arity) {
+                    Callee::Declared { number }
+                } else {
+                    Callee::Unknown
                 }
-                _ => Callee::Unknown,
             }
-        }
+            _ => Callee::Unknown,
+        },
         None => Callee::Unknown,
     }
 }
@@ -192,14 +204,14 @@ fn callee_of_declared(scope: &Scope<'_>, arity: u128, name: &Ident) -> Callee
 /// Whether these are so many parameters, of which none is a function.
 fn are_so_many(params: &[Param], arity: u128) -> bool
     ensures { result ≡ (nat_eq (length (map arity_of params.now)) arity
-        && list_all (λ p. cond (is_there p) false true) (map arity_of params.now)) }
+        && list_all (λ p. cond (is_some p) false true) (map arity_of params.now)) }
 {
     params.len() as u128 == arity && are_plain(params)
 }
 
 /// Whether no parameter is a function.
 fn are_plain(params: &[Param]) -> bool
-    ensures { result ≡ list_all (λ p. cond (is_there p) false true) (map arity_of params.now) }
+    ensures { result ≡ list_all (λ p. cond (is_some p) false true) (map arity_of params.now) }
 {
     for param in params {
         if param.arity.is_some() {
@@ -323,33 +335,28 @@ fn evaluate_declared(
     ensures { (spec : SpecScope) → IsScope scope.now spec → IfOk result (λ v. IsValue v
         (use_of_meaning spec (meaning_in spec name.now.text) name.now.token (map expression_of args.now))) }
 {
-    match scope.functions.find(scope.items, name.text.as_slice()) {
-        Some(number) => {
-            if number >= scope.level {
-                return Ok(faulty(name.token));
-            }
-            match scope.functions.item(scope.items, number) {
-                Item::Function { params, body, .. } => {
-                    if params.len() != args.len() {
-                        return Ok(faulty(name.token));
-                    }
-                    let bounds = evaluate_bindings(alloc, scope, params.as_slice(), args)?;
-                    let inner = Scope {
-                        facts: scope.facts,
-                        items: scope.items,
-                        functions: scope.functions,
-                        level: number,
-                        ceiling: scope.ceiling,
-                        locals: Locals::Params {
-                            params: params.as_slice(),
-                            bounds: bounds.as_slice(),
-                        },
-                    };
-                    evaluate(alloc, &inner, body)
+    match declared(scope, name) {
+        Some((number, item)) => match item {
+            Item::Function { params, body, .. } => {
+                if params.len() != args.len() {
+                    return Ok(faulty(name.token));
                 }
-                _ => Ok(faulty(name.token)),
+                let bounds = evaluate_bindings(alloc, scope, params.as_slice(), args)?;
+                let inner = Scope {
+                    facts: scope.facts,
+                    items: scope.items,
+                    functions: scope.functions,
+                    level: number,
+                    ceiling: scope.ceiling,
+                    locals: Locals::Params {
+                        params: params.as_slice(),
+                        bounds: bounds.as_slice(),
+                    },
+                };
+                evaluate(alloc, &inner, body)
             }
-        }
+            _ => Ok(faulty(name.token)),
+        },
         None => Ok(faulty(name.token)),
     }
 }

@@ -1,11 +1,14 @@
 //! What all expressions of a machine are written for.
+ghost use Rattle.qc_widths.specs.TextFaults.{kind_faults};
+
 use crate::faults::WidthFault;
 use crate::numbers::{width_fault, width_in};
 use crate::spaces::{spaces_of, word_of};
+use qc_grammar::{Ident, Number};
 use qc_lrtl::{Item, OperandKind};
 use qc_names::NameTable;
 use qc_terms::Place;
-use qc_text::{Ident, Number, Text};
+use qc_text::Text;
 use qc_words::Width;
 use sqlite_items::Items;
 use std::alloc::{AllocError, Global};
@@ -35,7 +38,7 @@ pub(crate) struct Target {
     pub width: Option<Width>,
 }
 
-/// What is told of a parameter or an operand without its use: it is plain, and fits as a target or doesn't, or it is a
+/// What is known of a parameter or an operand without its use: it is plain, and fits as a target or doesn't, or it is a
 /// function of so many plain arguments.
 #[derive(Clone, Copy, Debug, PartialEq, Eq)]
 pub(crate) enum Local {
@@ -53,7 +56,7 @@ pub(crate) struct Facts {
 
 impl Model for Facts {
     ghost use Rattle.qc_widths.specs.Scopes.{Facts as SpecFacts};
-    ghost use Rattle.qc_widths.specs.Tables.{HasTable};
+    ghost use Rattle.qc_widths.specs.Inner.SpaceTables.{HasTable};
 
     ghost Value = { SpecFacts };
 
@@ -65,10 +68,10 @@ impl Model for Facts {
 impl Facts {
     ghost use Rattle.std.specs.Prelude.{◌≡◌, ◌<◌, ◌≤◌, ◌^◌, length, IfOk, IfSome};
     ghost use Rattle.std.specs.Option.{option_map};
-    ghost use Rattle.qc_widths.specs.Faults.{told};
+    ghost use Rattle.qc_widths.specs.Faults.{reported};
     ghost use Rattle.qc_widths.specs.Scopes.{cell_named, cell_faults, space_named};
     ghost use Rattle.qc_widths.specs.Declarations.{place_of, facts_in, facts_of_operand};
-    ghost use Rattle.qc_widths.specs.Machine.{kind_faults};
+    ghost use Rattle.qc_widths.specs.TextFaults.{kind_faults};
 
     /// The facts that the items declare.
     pub(crate) fn new(alloc: Global, items: &[Item]) -> Result<Facts, AllocError>
@@ -147,7 +150,7 @@ impl Facts {
 
     /// The fault of a cell that is named.
     pub(crate) fn cell_fault(&self, space: &Ident, cell: &Number) -> Option<WidthFault>
-        ensures { result ≡ told (cell_faults self.now space.now cell.now) }
+        ensures { result ≡ reported (cell_faults self.now space.now cell.now) }
     {
         match self.space(space.text.as_slice()) {
             Some((_, facts)) => {
@@ -185,7 +188,7 @@ impl Facts {
 
     /// The fault of an operand's kind.
     pub(crate) fn kind_fault(&self, kind: &OperandKind) -> Option<WidthFault>
-        ensures { result ≡ told (kind_faults self.now kind.now) }
+        ensures { result ≡ reported (kind_faults self.now kind.now) }
     {
         match kind {
             OperandKind::Register { space } => match self.place(space.text.as_slice()) {

@@ -1,3 +1,5 @@
+use qc_names::TokenFault;
+
 /// Why a machine's text has no meaning, by the number of a token.
 ///
 /// `UnknownName` is a name without a declaration that fits, or the number of a cell that its space hasn't. `TwiceNamed`
@@ -16,4 +18,43 @@ pub enum WidthFault {
 pub enum WidthEnd {
     Fault { fault: WidthFault },
     NoMemory,
+}
+
+impl TokenFault for WidthFault {
+    ghost use Rattle.qc_widths.specs.declared.faults.WidthFault.TheVariants.{TwiceNamed as twice_fault, UnknownName as unknown_fault};
+    ghost use Rattle.qc_widths.specs.Faults.{token_of as token_of_fault, rank_of as rank_of_fault};
+
+    ghost token_of = { token_of_fault };
+
+    ghost rank_of = { rank_of_fault };
+
+    ghost twice = { twice_fault };
+
+    ghost unknown = { unknown_fault };
+
+    fn token(&self) -> usize {
+        match self {
+            WidthFault::UnknownName { token }
+            | WidthFault::TwiceNamed { token }
+            | WidthFault::WidthClash { token, .. }
+            | WidthFault::TooMany { token, .. } => *token,
+        }
+    }
+
+    fn rank(&self) -> u8 {
+        match self {
+            WidthFault::UnknownName { .. } => 0,
+            WidthFault::TwiceNamed { .. } => 1,
+            WidthFault::WidthClash { .. } => 2,
+            WidthFault::TooMany { .. } => 3,
+        }
+    }
+
+    fn second_at(token: usize) -> WidthFault {
+        WidthFault::TwiceNamed { token }
+    }
+
+    fn unknown_at(token: usize) -> WidthFault {
+        WidthFault::UnknownName { token }
+    }
 }

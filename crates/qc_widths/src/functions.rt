@@ -2,11 +2,11 @@
 ghost use Rattle.std.specs.Prelude.{◌≡◌, ◌<◌, ◌+◌, length, OnOk};
 ghost use Rattle.std.specs.Option.{option_copied, option_to_list};
 ghost use Rattle.qc_widths.specs.Declarations.{function_name};
-ghost use Rattle.qc_widths.specs.Tables.{HasFirst};
+ghost use Rattle.qc_widths.specs.Inner.SpaceTables.{HasFirst};
 
+use qc_grammar::Ident;
 use qc_lrtl::Item;
 use qc_names::NameTable;
-use qc_text::Ident;
 use sqlite_items::{Items, at};
 use std::alloc::{AllocError, Global};
 
@@ -18,7 +18,7 @@ pub(crate) struct Functions {
 }
 
 /// The name of a function or of named effects.
-fn name_of(item: &Item) -> Option<&Ident>
+pub(crate) fn name_of_function(item: &Item) -> Option<&Ident>
     ensures { option_to_list (option_copied result) ≡ function_name item.now }
 {
     match item {
@@ -39,7 +39,7 @@ fn declare(
     requires first { HasFirst items.now place declared.old numbers.old }
     ensures { OnOk result (HasFirst items.now (place + 1) declared.new numbers.new) }
 {
-    match name_of(&items[place]) {
+    match name_of_function(&items[place]) {
         None => Ok(()),
         Some(name) => {
             numbers.enter(alloc, name.text.as_slice(), declared.len())?;
@@ -51,7 +51,7 @@ fn declare(
 impl Functions {
     ghost use Rattle.std.specs.Prelude.{◌≡◌, ◌<◌, Some, length, slice_get, IfOk};
     ghost use Rattle.qc_widths.specs.Declarations.{function_items, place_of_function};
-    ghost use Rattle.qc_widths.specs.Functions.{IsTableOf};
+    ghost use Rattle.qc_widths.specs.Inner.FunctionTables.{IsTableOf};
 
     /// The functions and named effects that the items declare.
     pub(crate) fn new(alloc: Global, items: &[Item]) -> Result<Functions, AllocError>

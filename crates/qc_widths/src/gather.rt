@@ -1,25 +1,25 @@
 //! What effects come to where they are written.
 ghost use Rattle.std.specs.Prelude.{◌≡◌, ◌≤◌, None, IfOk, length, map};
+ghost use Rattle.qc_widths.specs.TextFaults.{acts_of_instruction as instruction_acts};
 ghost use Rattle.qc_widths.specs.Declarations.{function_items, meanings_in};
 ghost use Rattle.qc_widths.specs.Effects.{acts_of, acts_of_effect, acts_of_meaning, acts_of_simple, acts_of_use};
-ghost use Rattle.qc_widths.specs.Elaboration.{AreActs, IsContext};
-ghost use Rattle.qc_widths.specs.Evaluated.{IsScope, IsSettled};
+ghost use Rattle.qc_widths.specs.Inner.Elaboration.{AreActs, IsContext};
+ghost use Rattle.qc_widths.specs.Inner.KeptValues.{IsScope, IsSettled};
 ghost use Rattle.qc_widths.specs.Expressions.{expression_of};
-ghost use Rattle.qc_widths.specs.Kept.{IsActs};
-ghost use Rattle.qc_widths.specs.Machine.{acts_of_instruction as instruction_acts};
+ghost use Rattle.qc_widths.specs.Inner.KeptEffects.{IsActs};
 ghost use Rattle.qc_widths.specs.Scopes.{Scope as SpecScope, meaning_in};
-ghost use Rattle.qc_widths.specs.Functions.{IsTableOf};
+ghost use Rattle.qc_widths.specs.Inner.FunctionTables.{IsTableOf};
 
 use crate::acts::{Acts, act_on_register, act_on_word, guarded_acts, joined, no_acts, one_act};
 use crate::context::Context;
-use crate::evaluate::{evaluate, evaluate_bindings, target_of_name};
+use crate::evaluate::{declared, evaluate, evaluate_bindings, target_of_name};
 use crate::facts::Facts;
 use crate::functions::Functions;
 use crate::operators::operator_named;
 use crate::scope::{Found, Locals, Scope};
+use qc_grammar::Ident;
 use qc_lrtl::{Effect, Expr, Item, Operand, Simple};
 use qc_terms::Dest;
-use qc_text::Ident;
 use qc_words::Width;
 use std::alloc::{AllocError, Global};
 
@@ -143,33 +143,28 @@ fn acts_of_declared(
         → IfOk result (λ a. IsActs a
         (acts_of_meaning spec None None (meaning_in spec name.now.text) (map expression_of args.now))) }
 {
-    match scope.functions.find(scope.items, name.text.as_slice()) {
-        Some(number) => {
-            if number >= scope.level {
-                return Ok(no_acts(alloc));
-            }
-            match scope.functions.item(scope.items, number) {
-                Item::Effects { params, body, .. } => {
-                    if params.len() != args.len() {
-                        return Ok(no_acts(alloc));
-                    }
-                    let bounds = evaluate_bindings(alloc, scope, params.as_slice(), args)?;
-                    let inner = Scope {
-                        facts: scope.facts,
-                        items: scope.items,
-                        functions: scope.functions,
-                        level: number,
-                        ceiling: scope.ceiling,
-                        locals: Locals::Params {
-                            params: params.as_slice(),
-                            bounds: bounds.as_slice(),
-                        },
-                    };
-                    acts_of_effects(alloc, &inner, body.as_slice())
+    match declared(scope, name) {
+        Some((number, item)) => match item {
+            Item::Effects { params, body, .. } => {
+                if params.len() != args.len() {
+                    return Ok(no_acts(alloc));
                 }
-                _ => Ok(no_acts(alloc)),
+                let bounds = evaluate_bindings(alloc, scope, params.as_slice(), args)?;
+                let inner = Scope {
+                    facts: scope.facts,
+                    items: scope.items,
+                    functions: scope.functions,
+                    level: number,
+                    ceiling: scope.ceiling,
+                    locals: Locals::Params {
+                        params: params.as_slice(),
+                        bounds: bounds.as_slice(),
+                    },
+                };
+                acts_of_effects(alloc, &inner, body.as_slice())
             }
-        }
+            _ => Ok(no_acts(alloc)),
+        },
         None => Ok(no_acts(alloc)),
     }
 }

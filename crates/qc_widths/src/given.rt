@@ -1,18 +1,20 @@
 //! The facts that the items give, and the spaces.
 ghost use Rattle.std.specs.Prelude.{◌≡◌, ◌<◌, ◌^◌, true, map, Some, IfOk};
 ghost use Rattle.std.specs.List.{list_all};
+ghost use Rattle.std.specs.Option.{option_flatten};
+ghost use Rattle.qc_widths.specs.GivenFacts.{first_given, given_number, given_cell, given_in, word_given as word_of_item, order_of as order_of_syntax, order_given as order_of_item, allocatable_given as allocatable_of_item};
 ghost use Rattle.qc_widths.specs.Declarations.{facts_in};
-ghost use Rattle.qc_widths.specs.Machine.{first_given, flat, word_given as word_of_item, order_of as order_of_syntax, order_given as order_of_item};
-ghost use Rattle.qc_widths.specs.Machine.{given_cell, given_number, given_in, space_of, allocatable_given as allocatable_of_item};
-ghost use Rattle.qc_widths.specs.Given.{size_of_item, cell_of_item, has_small_cells, is_small_space};
+ghost use Rattle.qc_widths.specs.Machine.{space_of};
+ghost use Rattle.qc_widths.specs.Inner.Given.{size_of_item, cell_of_item, has_small_cells, is_small_space};
 
 use crate::facts::{Facts, SpaceFacts};
 use crate::nodes::bits_of;
 use crate::numbers::width_in;
 use qc_descr::{Given, Space};
+use qc_grammar::{Ident, Number};
 use qc_lrtl::{ByteOrder, Item};
 use qc_terms::Order;
-use qc_text::{Ident, Number, Text};
+use qc_text::Text;
 use qc_words::Width;
 use sqlite_items::Items;
 use std::alloc::{AllocError, Global};
@@ -36,7 +38,7 @@ pub(crate) enum CellItem {
 }
 
 fn word_given(items: &[Item]) -> Option<Width>
-    ensures { result ≡ flat (first_given word_of_item items.now) }
+    ensures { result ≡ option_flatten (first_given word_of_item items.now) }
 {
     for item in items {
         if let Item::Word { bits, .. } = item {

@@ -1,9 +1,9 @@
 //! Items, one after the other: their faults, and the operations that they declare.
 ghost use Rattle.std.specs.Prelude.{◌≡◌, ◌++◌, ◌+◌, ◌≤◌, length, take, None, IfOk, OnOk};
-ghost use Rattle.qc_widths.specs.Faults.{told};
+ghost use Rattle.qc_widths.specs.Faults.{reported};
 ghost use Rattle.qc_widths.specs.Declarations.{meanings_in, function_name, instruction_name, space_name};
-ghost use Rattle.qc_widths.specs.Machine.{item_faults, operation_of_item};
-ghost use Rattle.qc_widths.specs.Elaboration.{IsContext, OperationUnless, all_signatures, faults_of_item, operations_of_item};
+ghost use Rattle.qc_widths.specs.Machine.{operation_of_item};
+ghost use Rattle.qc_widths.specs.Inner.Elaboration.{IsContext, OperationUnless, all_signatures, faults_of_item, operations_of_item};
 
 use crate::bodies::{effects_fault, function_fault};
 use crate::context::Context;
@@ -11,9 +11,9 @@ use crate::faults::WidthFault;
 use crate::limits::space_fault;
 use crate::numbers::width_fault;
 use crate::operations::{Outcome, instruction};
-use crate::order::earlier;
 use crate::repeated::params_fault;
 use qc_lrtl::Item;
+use qc_names::earlier;
 use std::alloc::{AllocError, Global};
 
 /// How many functions, instructions and spaces stand before an item.
@@ -34,7 +34,7 @@ fn no_operation(fault: Option<WidthFault>) -> Outcome
 }
 
 /// An item behind so many others.
-#[tactic(auto, unfolding(crate::specs::Elaboration::names_of_params, crate::specs::Elaboration::all_signatures), using(crate::proofs::Told::told_parts))]
+#[tactic(auto, unfolding(crate::specs::Inner::Elaboration::names_of_params, crate::specs::Inner::Elaboration::all_signatures), using(qc_names::specs::Law::Reported::reported_parts))]
 pub(crate) fn elaborate_item(
     alloc: Global,
     context: &Context<'_>,
@@ -43,7 +43,7 @@ pub(crate) fn elaborate_item(
 ) -> Result<Outcome, AllocError>
     requires context { IsContext context.now }
     requires level { counts.functions ≤ length (all_signatures context.now) }
-    ensures fault { IfOk result (λ r. r.fault ≡ told (faults_of_item context.now counts item.now)) }
+    ensures fault { IfOk result (λ r. r.fault ≡ reported (faults_of_item context.now counts item.now)) }
     ensures operation { IfOk result (λ r. OperationUnless r.fault r.operation (operations_of_item context.now
         item.now)) }
 {

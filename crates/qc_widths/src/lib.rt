@@ -22,7 +22,6 @@ mod nodes;
 mod numbers;
 mod operations;
 mod operators;
-mod order;
 mod progress;
 mod repeated;
 mod scope;
@@ -34,6 +33,3 @@ mod value;
 pub use elaboration::elaborate;
 pub use faults::{WidthEnd, WidthFault};
 pub use machine::Machine;
-
-#[cfg(test)]
-mod tests;

@@ -1,27 +1,39 @@
 //! Limits, and the acts of instructions within them.
 ghost use Rattle.std.specs.Prelude.{◌≡◌, ◌++◌, suc, IfOk};
-ghost use Rattle.qc_widths.specs.Faults.{told};
+ghost use Rattle.qc_widths.specs.TextFaults.{more_than as faults_above};
+ghost use Rattle.qc_descr.specs.Limits.{most_cells, most_spaces};
+ghost use Rattle.qc_widths.specs.TextFaults.{limit_faults, clashes_within, acts_of_instruction as all_acts};
+ghost use Rattle.qc_widths.specs.Faults.{reported};
 ghost use Rattle.qc_widths.specs.Declarations.{meanings_in};
-ghost use Rattle.qc_widths.specs.Machine.{acts_of_instruction as all_acts, limit_faults, clashes_within};
-ghost use Rattle.qc_widths.specs.Machine.{more_than as faults_above};
 ghost use Rattle.qc_widths.specs.Numbers.{width_faults};
-ghost use Rattle.qc_widths.specs.Elaboration.{IsContext, EffectsUnless};
+ghost use Rattle.qc_widths.specs.Inner.Elaboration.{IsContext, EffectsUnless};
 
 use crate::acts::Acts;
 use crate::context::Context;
 use crate::faults::WidthFault;
 use crate::gather::acts_in;
 use crate::numbers::width_fault;
-use crate::order::earlier;
+use crate::value::MOST_NODES;
+use qc_grammar::Number;
 use qc_lrtl::Operand;
+use qc_names::earlier;
 use qc_terms::Effect;
-use qc_text::Number;
 use sqlite_items::Items;
 use std::alloc::{AllocError, Global};
 
+const MOST_INSTRUCTIONS: u32 = 256;
+
+const MOST_OPERANDS: u32 = 8;
+
+const MOST_EFFECTS: u32 = 16;
+
+const MOST_SPACES: u32 = 8;
+
+const MOST_CELLS: u32 = 64;
+
 /// The fault of more than so many of something.
 fn more_than(limit: u32, token: usize, count: u128) -> Option<WidthFault>
-    ensures { result ≡ told (faults_above limit token count) }
+    ensures { result ≡ reported (faults_above limit token count) }
 {
     if count > u128::from(limit) {
         Some(WidthFault::TooMany { token, limit })
@@ -31,7 +43,7 @@ fn more_than(limit: u32, token: usize, count: u128) -> Option<WidthFault>
 }
 
 /// The fault of a space with so many spaces before it.
-#[tactic(auto, using(crate::proofs::Told::told_parts))]
+#[tactic(auto, using(qc_names::specs::Law::Reported::reported_parts))]
 pub(crate) fn space_fault(
     token: usize,
     cells: &Number,
@@ -39,12 +51,12 @@ pub(crate) fn space_fault(
     spaces: usize,
 ) -> Option<WidthFault>
     ensures { result
-        ≡ told (width_faults bits.now ++ (faults_above 8 token (suc spaces) ++ faults_above 64 token cells.now.value)) }
+        ≡ reported (width_faults bits.now ++ (faults_above most_spaces token (suc spaces) ++ faults_above most_cells token cells.now.value)) }
 {
-    let count = more_than(8, token, spaces as u128 + 1);
+    let count = more_than(MOST_SPACES, token, spaces as u128 + 1);
     earlier(
         width_fault(bits),
-        earlier(count, more_than(64, token, cells.value)),
+        earlier(count, more_than(MOST_CELLS, token, cells.value)),
     )
 }
 
@@ -60,30 +72,45 @@ pub(crate) fn acts_within(
     requires { IsContext context.now }
     ensures fault { IfOk result (λ r. let acts = all_acts context.now.facts.now
         (meanings_in context.now.facts.now context.now.items.now) operands.now body.now in
-        let limits = limit_faults number token operands.now acts in r.0 ≡ told (limits ++ clashes_within limits acts)) }
+        let limits = limit_faults number token operands.now acts in r.0 ≡ reported (limits ++ clashes_within limits acts)) }
     ensures effects { IfOk result (λ r. EffectsUnless r.0 r.1 (all_acts context.now.facts.now
         (meanings_in context.now.facts.now context.now.items.now) operands.now body.now)) }
 {
-    if number >= 256 {
+    if number >= MOST_INSTRUCTIONS as usize {
         return Ok((
-            Some(WidthFault::TooMany { token, limit: 256 }),
+            Some(WidthFault::TooMany {
+                token,
+                limit: MOST_INSTRUCTIONS,
+            }),
             Items::new(alloc),
         ));
     }
-    if operands.len() > 8 {
+    if operands.len() > MOST_OPERANDS as usize {
         return Ok((
-            Some(WidthFault::TooMany { token, limit: 8 }),
+            Some(WidthFault::TooMany {
+                token,
+                limit: MOST_OPERANDS,
+            }),
             Items::new(alloc),
         ));
     }
     match acts_in(alloc, context, operands, body)? {
         Acts::Huge => Ok((
-            Some(WidthFault::TooMany { token, limit: 4096 }),
+            Some(WidthFault::TooMany {
+                token,
+                limit: MOST_NODES,
+            }),
             Items::new(alloc),
         )),
         Acts::Known { effects, clash, .. } => {
-            if effects.len() > 16 {
-                Ok((Some(WidthFault::TooMany { token, limit: 16 }), effects))
+            if effects.len() > MOST_EFFECTS as usize {
+                Ok((
+                    Some(WidthFault::TooMany {
+                        token,
+                        limit: MOST_EFFECTS,
+                    }),
+                    effects,
+                ))
             } else {
                 Ok((clash, effects))
             }

@@ -1,12 +1,12 @@
 //! The names that an expression may use, without their uses.
 ghost use Rattle.std.specs.Prelude.{◌≡◌, Some, map};
 ghost use Rattle.std.specs.Option.{option_map, option_copied};
-ghost use Rattle.qc_widths.specs.Faults.{told};
+ghost use Rattle.qc_widths.specs.Faults.{reported};
 ghost use Rattle.qc_widths.specs.Scopes as scopes;
 ghost use Rattle.qc_widths.specs.Declarations as declared;
 ghost use Rattle.qc_widths.specs.Expressions as written;
-ghost use Rattle.qc_widths.specs.Summaries.{summary};
-ghost use Rattle.qc_widths.specs.NamesAt.{names_at, locals_in, IsReady};
+ghost use Rattle.qc_widths.specs.Inner.KeptSignatures.{summary};
+ghost use Rattle.qc_widths.specs.Inner.KeptNames.{names_at, locals_in, IsReady};
 
 pub(crate) mod effects;
 pub(crate) mod expressions;
@@ -15,8 +15,8 @@ use crate::facts::{Facts, Local};
 use crate::faults::WidthFault;
 use crate::functions::Functions;
 use crate::signatures::{Signature, arity_of};
+use qc_grammar::{Ident, Number};
 use qc_lrtl::{Expr, Item, Operand, OperandKind, Param};
-use qc_text::{Ident, Number};
 use qc_words::Width;
 use sqlite_items::at;
 
@@ -82,7 +82,7 @@ fn operand_named(operands: &[Operand], name: &[u8]) -> Option<Local>
 }
 
 /// What the name of a parameter or of an operand is.
-#[tactic(auto, unfolding(crate::specs::NamesAt::names_at))]
+#[tactic(auto, unfolding(crate::specs::Inner::KeptNames::names_at))]
 pub(crate) fn local_in(names: &Names<'_>, name: &[u8]) -> Option<Local>
     ensures { result ≡ scopes.local_in (names_at names.now) name.now }
 {
@@ -104,7 +104,7 @@ pub(crate) fn signature_in<'a>(names: &Names<'a>, name: &[u8]) -> Option<&'a Sig
 }
 
 /// The width of words.
-#[tactic(auto, unfolding(crate::specs::NamesAt::names_at))]
+#[tactic(auto, unfolding(crate::specs::Inner::KeptNames::names_at))]
 pub(crate) fn word_in(names: &Names<'_>) -> Option<Width>
     ensures { result ≡ (names_at names.now).facts.word }
 {
@@ -112,9 +112,9 @@ pub(crate) fn word_in(names: &Names<'_>) -> Option<Width>
 }
 
 /// The fault of a cell that is named by its space and its number.
-#[tactic(auto, unfolding(crate::specs::NamesAt::names_at))]
+#[tactic(auto, unfolding(crate::specs::Inner::KeptNames::names_at))]
 pub(crate) fn cell_fault(names: &Names<'_>, space: &Ident, cell: &Number) -> Option<WidthFault>
-    ensures { result ≡ told (scopes.cell_faults (names_at names.now).facts space.now cell.now) }
+    ensures { result ≡ reported (scopes.cell_faults (names_at names.now).facts space.now cell.now) }
 {
     names.facts.cell_fault(space, cell)
 }

@@ -1,13 +1,12 @@
 //! What each node of an expression comes to, by what its parts come to.
-ghost use Rattle.std.specs.Prelude.{◌≡◌, ◌+◌, ◌<◌, ◌^◌, ◌&&◌, min, IfOk, if◌then◌else◌, List, None, false};
+ghost use Rattle.std.specs.Prelude.{ℕ, ◌≡◌, ◌≤◌, ◌+◌, ◌<◌, ◌^◌, ◌&&◌, min, IfOk, if◌then◌else◌, List, Option, None, false, is_some};
 ghost use Rattle.qc_words.specs.Operators.{is_unary as is_unary_operator, result_width_of};
 ghost use Rattle.qc_words.specs.declared.operator.Op.TheVariants as op;
-ghost use Rattle.qc_names.specs.Tables.{is_there};
 ghost use Rattle.qc_terms.specs.declared.term.Term.TheVariants as term;
 ghost use Rattle.qc_widths.specs.declared.faults.WidthFault.{WidthFault as Fault};
-ghost use Rattle.qc_widths.specs.Evaluated.{IsValue};
+ghost use Rattle.qc_widths.specs.Inner.KeptValues.{IsValue, nodes_in};
 ghost use Rattle.qc_widths.specs.Expressions.{value_of_cell};
-ghost use Rattle.qc_widths.specs.Faults.{told};
+ghost use Rattle.qc_widths.specs.Faults.{reported};
 ghost use Rattle.qc_widths.specs.Numbers.{is_empty};
 ghost use Rattle.qc_widths.specs.Numbers as numbers;
 ghost use Rattle.qc_widths.specs.Scopes as scopes;
@@ -16,10 +15,10 @@ ghost use Rattle.qc_widths.specs.Values as values;
 use crate::facts::{Facts, OperandFacts, Target};
 use crate::faults::WidthFault;
 use crate::numbers::{access_fault, access_width, literal_fault, width_in};
-use crate::order::earlier;
-use crate::value::{Built, LIMIT, Value, faulty, leaf, node};
+use crate::value::{Built, MOST_NODES, Value, faulty, leaf, node};
+use qc_grammar::Number;
+use qc_names::earlier;
 use qc_terms::{Place, Term};
-use qc_text::Number;
 use qc_words::{Op, Width, result_width};
 use sqlite_items::Boxed;
 use std::alloc::{AllocError, Global};
@@ -43,7 +42,7 @@ fn both(first: bool, second: bool) -> bool
 
 /// Whether a node is sound, by its parts and its number.
 fn has_width(sound: bool, width: &Option<Width>) -> bool
-    ensures { result ≡ (sound && is_there width.now) }
+    ensures { result ≡ (sound && is_some width.now) }
 {
     match width {
         Some(_) => sound,
@@ -52,9 +51,9 @@ fn has_width(sound: bool, width: &Option<Width>) -> bool
 }
 
 /// Whether a node is sound, by its parts and a fault of its number.
-#[tactic(auto, using(crate::proofs::Seen::none_told, crate::proofs::Seen::unsound))]
+#[tactic(auto, using(crate::proofs::Seen::none_reported, crate::proofs::Seen::unsound))]
 fn is_free(sound: bool, fault: Option<WidthFault>) -> bool
-    ensures { (faults : List Fault) → fault ≡ told faults → result ≡ (sound && is_empty faults) }
+    ensures { (faults : List Fault) → fault ≡ reported faults → result ≡ (sound && is_empty faults) }
 {
     match fault {
         Some(_) => false,
@@ -79,7 +78,7 @@ pub(crate) fn mismatch(
     found: Option<Width>,
     wanted: Option<Width>,
 ) -> Option<WidthFault>
-    ensures { result ≡ told (values.mismatch token found wanted) }
+    ensures { result ≡ reported (values.mismatch token found wanted) }
 {
     match (found, wanted) {
         (Some(found), Some(wanted)) if found.bits() != wanted.bits() => {
@@ -91,7 +90,7 @@ pub(crate) fn mismatch(
 
 /// A width that is above a given one.
 fn excess(token: usize, found: Option<Width>, most: Option<Width>) -> Option<WidthFault>
-    ensures { result ≡ told (values.excess token found most) }
+    ensures { result ≡ reported (values.excess token found most) }
 {
     match (found, most) {
         (Some(found), Some(most)) if found.bits() > most.bits() => {
@@ -108,7 +107,7 @@ fn past_end(
     low: &Number,
     to: Option<Width>,
 ) -> Option<WidthFault>
-    ensures { result ≡ told (values.past_end token found low.now.value to) }
+    ensures { result ≡ reported (values.past_end token found low.now.value to) }
 {
     match (found, to) {
         (Some(found), Some(to)) => {
@@ -184,7 +183,7 @@ pub(crate) fn load(
             sound,
             clash,
         } => {
-            if nodes >= LIMIT {
+            if nodes >= MOST_NODES {
                 return Ok(Value::Huge);
             }
             let access = access_width(facts.word(), bits);
@@ -206,6 +205,66 @@ pub(crate) fn load(
     }
 }
 
+/// The token and the width of a value whose term isn't too large.
+fn place_of(value: &Value) -> (usize, Option<Width>)
+    ensures { (spec : values.Value) → IsValue value.now spec → nodes_in spec ≤ 4096
+        → (result.0 ≡ spec.token) × (result.1 ≡ spec.width) }
+{
+    match value {
+        Value::Huge => (0, None),
+        Value::Known {
+            token,
+            term: _,
+            nodes: _,
+            width,
+            sound: _,
+            clash: _,
+        } => (*token, *width),
+    }
+}
+
+/// What a node adds to its part: its token and its width, whether it is sound where its part is, and its own clash.
+#[derive(Drop)]
+struct Added {
+    token: usize,
+    width: Option<Width>,
+    sound: bool,
+    own: Option<WidthFault>,
+}
+
+/// The value of an operator of one operand, by what its node adds.
+fn made(alloc: Global, op: Op, added: Added, arg: Value) -> Result<Value, AllocError>
+    ensures { (spec : values.Value) (width : Option ℕ) (faults : List Fault) → IsValue arg spec
+        → (nodes_in spec ≤ 4096 → (added.width ≡ width) × (added.own ≡ reported faults))
+        → IfOk result (λ v. IsValue v (values.node added.token (term.Un op spec.term) width (spec.sound && added.sound) spec.clashes faults)) }
+{
+    match arg {
+        Value::Huge => Ok(Value::Huge),
+        Value::Known {
+            token: _,
+            term,
+            nodes,
+            width: _,
+            sound,
+            clash,
+        } => {
+            if nodes >= MOST_NODES {
+                return Ok(Value::Huge);
+            }
+            let arg = Boxed::new(alloc, term)?;
+            Ok(node(Built {
+                token: added.token,
+                term: Term::Un { op, arg },
+                nodes: nodes + 1,
+                width: added.width,
+                sound: both(sound, added.sound),
+                inner: clash,
+                own: added.own,
+            }))
+        }
+    }
+}
+
 /// The value of an extension, which is signed or not.
 pub(crate) fn extension(
     alloc: Global,
@@ -217,33 +276,16 @@ pub(crate) fn extension(
     ensures { (spec : values.Value) → IsValue arg spec
         → IfOk result (λ v. IsValue v (values.extension (if is_signed then op.Sx else op.Zx) token bits.now spec)) }
 {
-    match arg {
-        Value::Huge => Ok(Value::Huge),
-        Value::Known {
-            token: start,
-            term,
-            nodes,
-            width,
-            sound,
-            clash,
-        } => {
-            if nodes >= LIMIT {
-                return Ok(Value::Huge);
-            }
-            let to = width_in(bits);
-            let arg = Boxed::new(alloc, term)?;
-            let op = extension_to(is_signed, bits_of(&to));
-            Ok(node(Built {
-                token,
-                term: Term::Un { op, arg },
-                nodes: nodes + 1,
-                sound: has_width(sound, &to),
-                width: to,
-                inner: clash,
-                own: excess(start, width, width_in(bits)),
-            }))
-        }
-    }
+    let to = width_in(bits);
+    let (start, width) = place_of(&arg);
+    let op = extension_to(is_signed, bits_of(&to));
+    let added = Added {
+        token,
+        width: to,
+        sound: has_width(true, &to),
+        own: excess(start, width, to),
+    };
+    made(alloc, op, added, arg)
 }
 
 /// An extension to a width.
@@ -268,67 +310,33 @@ pub(crate) fn slice(
     ensures { (spec : values.Value) → IsValue arg spec
         → IfOk result (λ v. IsValue v (values.slice token low.now bits.now spec)) }
 {
-    match arg {
-        Value::Huge => Ok(Value::Huge),
-        Value::Known {
-            token: start,
-            term,
-            nodes,
-            width,
-            sound,
-            clash,
-        } => {
-            if nodes >= LIMIT {
-                return Ok(Value::Huge);
-            }
-            let to = width_in(bits);
-            let arg = Boxed::new(alloc, term)?;
-            let op = Op::Slice {
-                low: low.value.min(64) as u8,
-                to: bits_of(&to),
-            };
-            Ok(node(Built {
-                token,
-                term: Term::Un { op, arg },
-                nodes: nodes + 1,
-                sound: has_width(sound, &to),
-                width: to,
-                inner: clash,
-                own: past_end(start, width, low, width_in(bits)),
-            }))
-        }
-    }
+    let to = width_in(bits);
+    let (start, width) = place_of(&arg);
+    let op = Op::Slice {
+        low: low.value.min(64) as u8,
+        to: bits_of(&to),
+    };
+    let added = Added {
+        token,
+        width: to,
+        sound: has_width(true, &to),
+        own: past_end(start, width, low, to),
+    };
+    made(alloc, op, added, arg)
 }
 
 /// The value of an operator of one operand.
 pub(crate) fn unary(alloc: Global, op: Op, token: usize, arg: Value) -> Result<Value, AllocError>
     ensures { (spec : values.Value) → IsValue arg spec → IfOk result (λ v. IsValue v (values.unary op token spec)) }
 {
-    match arg {
-        Value::Huge => Ok(Value::Huge),
-        Value::Known {
-            token: _,
-            term,
-            nodes,
-            width,
-            sound,
-            clash,
-        } => {
-            if nodes >= LIMIT {
-                return Ok(Value::Huge);
-            }
-            let arg = Boxed::new(alloc, term)?;
-            Ok(node(Built {
-                token,
-                term: Term::Un { op, arg },
-                nodes: nodes + 1,
-                width,
-                sound,
-                inner: clash,
-                own: None,
-            }))
-        }
-    }
+    let (_, width) = place_of(&arg);
+    let added = Added {
+        token,
+        width,
+        sound: true,
+        own: None,
+    };
+    made(alloc, op, added, arg)
 }
 
 /// Whether an operator has one operand.
@@ -398,7 +406,7 @@ pub(crate) fn binary(
                 clash: later,
             } => {
                 let nodes = nodes.saturating_add(more);
-                if nodes >= LIMIT {
+                if nodes >= MOST_NODES {
                     return Ok(Value::Huge);
                 }
                 let left = Boxed::new(alloc, term)?;

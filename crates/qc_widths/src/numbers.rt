@@ -1,11 +1,11 @@
 //! The numbers of a text that are widths, and the numbers of literals.
 ghost use Rattle.std.specs.Prelude.{◌≡◌};
-ghost use Rattle.qc_widths.specs.Faults.{told};
+ghost use Rattle.qc_widths.specs.Faults.{reported};
 ghost use Rattle.qc_widths.specs.Numbers as spec;
 
 use crate::faults::WidthFault;
-use crate::order::earlier;
-use qc_text::Number;
+use qc_grammar::Number;
+use qc_names::earlier;
 use qc_words::Width;
 
 /// The width that a number is.
@@ -32,7 +32,7 @@ pub(crate) fn clash(token: usize, found: u128, wanted: u128) -> WidthFault
 
 /// The fault of a number that is to be a width.
 pub(crate) fn width_fault(number: &Number) -> Option<WidthFault>
-    ensures { result ≡ told (spec.width_faults number.now) }
+    ensures { result ≡ reported (spec.width_faults number.now) }
 {
     match width_in(number) {
         Some(_) => None,
@@ -57,7 +57,7 @@ fn bits_needed(value: u128) -> u128
 
 /// The fault of a number that is to fit into a width, if there is one.
 fn fit_fault(value: &Number, width: Option<Width>) -> Option<WidthFault>
-    ensures { result ≡ told (spec.fit_faults value.now width) }
+    ensures { result ≡ reported (spec.fit_faults value.now width) }
 {
     match width {
         None => None,
@@ -76,16 +76,16 @@ fn fit_fault(value: &Number, width: Option<Width>) -> Option<WidthFault>
 }
 
 /// The fault of a literal of so many bits.
-#[tactic(auto, using(crate::proofs::Told::told_parts))]
+#[tactic(auto, using(qc_names::specs::Law::Reported::reported_parts))]
 pub(crate) fn literal_fault(value: &Number, bits: &Number) -> Option<WidthFault>
-    ensures { result ≡ told (spec.literal_faults value.now bits.now) }
+    ensures { result ≡ reported (spec.literal_faults value.now bits.now) }
 {
     earlier(width_fault(bits), fit_fault(value, width_in(bits)))
 }
 
 /// The fault of the width of a memory access.
 pub(crate) fn access_fault(word: Option<Width>, bits: &Number) -> Option<WidthFault>
-    ensures { result ≡ told (spec.access_faults word bits.now) }
+    ensures { result ≡ reported (spec.access_faults word bits.now) }
 {
     match bits.value {
         8 | 16 | 32 | 64 => match word {

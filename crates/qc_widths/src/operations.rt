@@ -1,11 +1,11 @@
 //! Instructions: their faults, and the operations that they are.
 ghost use Rattle.std.specs.Prelude.{◌≡◌, map, IfOk};
 ghost use Rattle.std.specs.List.{flat_map};
-ghost use Rattle.qc_widths.specs.Faults.{told};
+ghost use Rattle.qc_widths.specs.TextFaults.{kind_faults, instruction_faults};
+ghost use Rattle.qc_widths.specs.Faults.{reported};
 ghost use Rattle.qc_widths.specs.Declarations.{facts_of_operand, meanings_in};
-ghost use Rattle.qc_widths.specs.Machine.{kind_faults, instruction_faults, operation_of_item};
-ghost use Rattle.qc_widths.specs.Machine.{kind_of as kind_of_facts};
-ghost use Rattle.qc_widths.specs.Elaboration.{IsContext, OperationUnless};
+ghost use Rattle.qc_widths.specs.Machine.{operation_of_item, kind_of as kind_of_facts};
+ghost use Rattle.qc_widths.specs.Inner.Elaboration.{IsContext, OperationUnless};
 ghost use Rattle.qc_lrtl.specs.declared.syntax.Item.TheVariants.{Instruction};
 
 use crate::bodies::instruction_fault;
@@ -14,16 +14,17 @@ use crate::facts::{Facts, OperandFacts};
 use crate::faults::WidthFault;
 use crate::limits::acts_within;
 use crate::nodes::bits_of;
-use crate::order::earlier;
 use crate::repeated::operand_names_fault;
 use qc_descr::{OperandKind, Operation};
+use qc_grammar::Ident;
 use qc_lrtl::{Effect, Operand};
+use qc_names::earlier;
 use qc_terms::Rtl;
-use qc_text::{Ident, Text};
+use qc_text::Text;
 use sqlite_items::Items;
 use std::alloc::{AllocError, Global};
 
-/// The fault that is told of an item, and the operation that it is, if it is an instruction without a fault.
+/// The fault that is reported of an item, and the operation that it is, if it is an instruction without a fault.
 #[derive(Debug, Drop)]
 pub(crate) struct Outcome {
     pub fault: Option<WidthFault>,
@@ -38,7 +39,7 @@ fn kind_of(facts: OperandFacts) -> OperandKind
         OperandFacts::Immediate { width } => OperandKind::Imm {
             width: bits_of(&width),
         },
-        OperandFacts::Address => OperandKind::Address,
+        OperandFacts::Address => OperandKind::Addr,
     }
 }
 
@@ -61,7 +62,7 @@ fn operands_of(
 
 /// The fault of the operands' kinds.
 fn kinds_fault(facts: &Facts, operands: &[Operand]) -> Option<WidthFault>
-    ensures { result ≡ told (flat_map (λ o. kind_faults facts.now o.kind) operands.now) }
+    ensures { result ≡ reported (flat_map (λ o. kind_faults facts.now o.kind) operands.now) }
 {
     let mut fault = None;
     for operand in operands {
@@ -81,7 +82,7 @@ pub(crate) fn instruction(
     body: &[Effect],
 ) -> Result<Outcome, AllocError>
     requires { IsContext context.now }
-    ensures fault { IfOk result (λ r. r.fault ≡ told (instruction_faults context.now.facts.now
+    ensures fault { IfOk result (λ r. r.fault ≡ reported (instruction_faults context.now.facts.now
         (meanings_in context.now.facts.now context.now.items.now) number token operands.now body.now)) }
     ensures operation { IfOk result (λ r. OperationUnless r.fault r.operation (operation_of_item context.now.facts.now
         (meanings_in context.now.facts.now context.now.items.now) (Instruction token name.now operands.now body.now))) }

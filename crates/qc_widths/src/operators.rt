@@ -1,8 +1,11 @@
 //! The operators that have names.
-ghost use Rattle.std.specs.Prelude.{◌≡◌, map};
-ghost use Rattle.qc_widths.specs.Scopes.{named, second, operator_named as named_operator, operands_of as operands_wanted};
+ghost use Rattle.std.specs.Prelude.{◌≡◌, map, IfOk};
+ghost use Rattle.qc_names.specs.Tables.{HasNames};
+ghost use Rattle.qc_widths.specs.Scopes.{named, operators, second, operator_named as named_operator, operands_of as operands_wanted};
 
+use qc_names::NameTable;
 use qc_words::Op;
+use std::alloc::{AllocError, Global};
 
 const OPERATORS: [(&[u8], Op); 21] = [
     (b"add", Op::Add),
@@ -45,6 +48,24 @@ pub(crate) fn operator_named(name: &[u8]) -> Option<Op>
     ensures { result ≡ named_operator name.now }
 {
     paired_operator(&OPERATORS, name)
+}
+
+/// The names of pairs.
+fn names_of(alloc: Global, pairs: &[(&[u8], Op)]) -> Result<NameTable, AllocError>
+    ensures { IfOk result (λ names. HasNames names (map (λ p. p.0.now) pairs.now)) }
+{
+    let mut names = NameTable::new(alloc);
+    for pair in pairs {
+        names.enter(alloc, pair.0, 0)?;
+    }
+    Ok(names)
+}
+
+/// The names of all operators that have one.
+pub(crate) fn operator_names(alloc: Global) -> Result<NameTable, AllocError>
+    ensures { IfOk result (λ names. HasNames names (map (λ p. p.0) operators)) }
+{
+    names_of(alloc, &OPERATORS)
 }
 
 /// How many operands an operator has.

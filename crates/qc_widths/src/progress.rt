@@ -2,21 +2,21 @@
 ghost use Rattle.std.specs.Prelude.{◌≡◌, ◌++◌, ◌≤◌, ◌<◌, ◌^◌, [], length, IfOk, OnOk};
 ghost use Rattle.std.specs.List.{flat_map};
 ghost use Rattle.std.specs.Option.{option_to_list};
-ghost use Rattle.qc_widths.specs.Faults.{told, told_of_both};
-ghost use Rattle.qc_widths.specs.Elaboration.{IsContext, OperationsUnless, all_signatures, counts_behind};
-ghost use Rattle.qc_widths.specs.Elaboration.{faults_of_item, operations_of_item, faults_of_items};
+ghost use Rattle.qc_widths.specs.Faults.{reported, reported_of_both};
+ghost use Rattle.qc_widths.specs.Inner.Elaboration.{IsContext, OperationsUnless, all_signatures, counts_behind};
+ghost use Rattle.qc_widths.specs.Inner.Elaboration.{faults_of_item, operations_of_item, faults_of_items};
 
 use crate::context::Context;
 use crate::faults::WidthFault;
 use crate::items::{Counts, elaborate_item};
-use crate::order::earlier;
 use qc_descr::Operation;
 use qc_lrtl::Item;
+use qc_names::earlier;
 use sqlite_items::Items;
 use std::alloc::{AllocError, Global};
 
-/// What is known behind some items: their counts, the fault that is told of them, and their operations, which are whole
-/// while no fault is told.
+/// What is known behind some items: their counts, the fault that is reported of them, and their operations, which are whole
+/// while no fault is reported.
 #[derive(Debug, Drop)]
 pub(crate) struct Progress {
     pub counts: Counts,
@@ -67,7 +67,7 @@ fn advance(
     requires spaces { progress.counts.spaces < 2 ^ 63 }
     ensures counts { IfOk result (λ r. r.counts ≡ counts_behind progress.counts item.now) }
     ensures fault { IfOk result (λ r. r.fault
-        ≡ told_of_both progress.fault (told (faults_of_item context.now progress.counts item.now))) }
+        ≡ reported_of_both progress.fault (reported (faults_of_item context.now progress.counts item.now))) }
     ensures operations { IfOk result (λ r. OperationsUnless r.fault r.operations
         (progress.operations ++ operations_of_item context.now item.now)) }
 {
@@ -89,10 +89,10 @@ fn advance(
     })
 }
 
-/// The operations that the items declare, and the fault that is told of them but for names that stand twice.
+/// The operations that the items declare, and the fault that is reported of them but for names that stand twice.
 pub(crate) fn elaborate_items(alloc: Global, context: &Context<'_>) -> Result<Progress, AllocError>
     requires { IsContext context.now }
-    ensures fault { IfOk result (λ r. r.fault ≡ told (faults_of_items context.now)) }
+    ensures fault { IfOk result (λ r. r.fault ≡ reported (faults_of_items context.now)) }
     ensures operations { IfOk result (λ r. OperationsUnless r.fault r.operations
         (flat_map (operations_of_item context.now) context.now.items.now)) }
 {

@@ -1,130 +1,154 @@
 //! Names that repeat one of the same text.
-ghost use Rattle.std.specs.Prelude.{◌≡◌, ℕ, List, [], map, IfOk, OnOk};
-ghost use Rattle.std.specs.List.{flat_map, list_any};
-ghost use Rattle.std.specs.Option.{option_map, option_to_list};
-ghost use Rattle.std.specs.Str.{bytes_eq};
-ghost use Rattle.qc_widths.specs.Faults.{told};
-ghost use Rattle.qc_widths.specs.Machine.{repeated as repeated_names, repeated_after, params_faults, second_names as all_second_names};
-ghost use Rattle.qc_widths.specs.Repeated.{noted, noted_all, names_of, known_names};
+ghost use Rattle.std.specs.Prelude.{◌≡◌, [], map, None, IfOk, OnOk};
+ghost use Rattle.std.specs.List.{flat_map};
+ghost use Rattle.std.specs.Option.{option_copied, option_to_list};
+ghost use Rattle.qc_widths.specs.TextFaults.{repeated_after, single_item, number_of_single, second_singles, params_faults, repeated as repeated_names, second_declarations as all_second_declarations};
+ghost use Rattle.qc_names.specs.Tables.{HasNames};
+ghost use Rattle.qc_widths.specs.Faults.{reported};
+ghost use Rattle.qc_widths.specs.Inner.Repeated.{known_names, names_of, noted_all, single_name};
 
 use crate::faults::WidthFault;
-use crate::operators::operator_named;
-use crate::order::earlier;
+use crate::functions::name_of_function;
+use crate::operators::operator_names;
+use qc_grammar::Ident;
 use qc_lrtl::{Item, Operand, Param};
-use qc_names::NameTable;
+use qc_names::{Seen, earlier};
 use std::alloc::{AllocError, Global};
 
 /// The kinds of names that a text declares, each of which may stand once.
 #[derive(Clone, Copy, Debug, PartialEq, Eq)]
 pub(crate) enum Kind {
-    Single,
     Space,
     Function,
     Instruction,
 }
 
-/// Names that were seen, and the fault that is told of those that repeat one.
-#[derive(Debug, Drop)]
-pub(crate) struct Seen {
-    names: NameTable,
-    fault: Option<WidthFault>,
+/// The sorts of items each of which may stand once.
+#[derive(Clone, Copy, Debug, PartialEq, Eq)]
+pub(crate) enum Single {
+    Word,
+    ByteOrder,
+    Align,
+    SlotBits,
+    Memory,
+    Code,
+    Data,
+    Zero,
+    Frame,
+    Link,
+    Allocatable,
 }
 
-/// Sees a name at a token, which is a fault if it is known or was seen.
-fn see(
-    alloc: Global,
-    seen: &mut Seen,
-    token: usize,
-    text: &[u8],
-    known: bool,
-) -> Result<(), AllocError>
-    ensures { (start : List (List ℕ)) → known ≡ list_any (bytes_eq text.now) start →
-        OnOk result (seen.new ≡ noted start seen.old (record { token = token; text = text.now })) }
-{
-    let was = seen.names.enter(alloc, text, 0)?;
-    let fault = if known || was {
-        Some(WidthFault::TwiceNamed { token })
-    } else {
-        None
-    };
-    seen.fault = earlier(seen.fault, fault);
-    Ok(())
-}
-
-/// The token and the text of the name of a kind that an item declares. A single item is named by the number of its
-/// sort.
-fn name_of(kind: Kind, item: &Item) -> Option<(usize, &[u8])>
-    ensures { option_to_list (option_map (λ p. record { token = p.0; text = p.1.now }) result)
-        ≡ names_of kind item.now }
-{
-    match kind {
-        Kind::Single => sort_of(item),
-        Kind::Space => match item {
-            Item::Space { name, .. } => Some((name.token, name.text.as_slice())),
-            _ => None,
-        },
-        Kind::Function => match item {
-            Item::Function { name, .. } | Item::Effects { name, .. } => Some((
-                name.token,
-                name.text.as_slice(),
-            )),
-            _ => None,
-        },
-        Kind::Instruction => match item {
-            Item::Instruction { name, .. } => Some((name.token, name.text.as_slice())),
-            _ => None,
-        },
-    }
-}
-
-/// The token of a single item and the number of its sort.
-fn sort_of(item: &Item) -> Option<(usize, &[u8])>
-    ensures { option_to_list (option_map (λ p. record { token = p.0; text = p.1.now }) result)
-        ≡ names_of Kind.Single item.now }
+/// The token of an item that may stand once, and its sort.
+fn single_of(item: &Item) -> Option<(usize, Single)>
+    ensures { option_to_list result ≡ single_item item.now }
 {
     match item {
-        Item::Word { token, .. } => Some((*token, &[0])),
-        Item::ByteOrder { token, .. } => Some((*token, &[1])),
-        Item::Align { token, .. } => Some((*token, &[2])),
-        Item::SlotBits { token, .. } => Some((*token, &[3])),
-        Item::Memory { token, .. } => Some((*token, &[4])),
-        Item::Code { token, .. } => Some((*token, &[5])),
-        Item::Data { token, .. } => Some((*token, &[6])),
-        Item::Zero { token, .. } => Some((*token, &[7])),
-        Item::Frame { token, .. } => Some((*token, &[8])),
-        Item::Link { token, .. } => Some((*token, &[9])),
-        Item::Allocatable { token, .. } => Some((*token, &[10])),
+        Item::Word { token, .. } => Some((*token, Single::Word)),
+        Item::ByteOrder { token, .. } => Some((*token, Single::ByteOrder)),
+        Item::Align { token, .. } => Some((*token, Single::Align)),
+        Item::SlotBits { token, .. } => Some((*token, Single::SlotBits)),
+        Item::Memory { token, .. } => Some((*token, Single::Memory)),
+        Item::Code { token, .. } => Some((*token, Single::Code)),
+        Item::Data { token, .. } => Some((*token, Single::Data)),
+        Item::Zero { token, .. } => Some((*token, Single::Zero)),
+        Item::Frame { token, .. } => Some((*token, Single::Frame)),
+        Item::Link { token, .. } => Some((*token, Single::Link)),
+        Item::Allocatable { token, .. } => Some((*token, Single::Allocatable)),
         _ => None,
     }
 }
 
-/// Whether a text is among the names that are known before those of a kind.
-fn is_known(kind: Kind, text: &[u8]) -> bool
-    ensures { result ≡ list_any (bytes_eq text.now) (known_names kind) }
+/// The place of a sort among all of them.
+fn number_of(single: Single) -> u8
+    ensures { result ≡ number_of_single single }
 {
-    match kind {
-        Kind::Function => operator_named(text).is_some(),
-        _ => false,
+    match single {
+        Single::Word => 0,
+        Single::ByteOrder => 1,
+        Single::Align => 2,
+        Single::SlotBits => 3,
+        Single::Memory => 4,
+        Single::Code => 5,
+        Single::Data => 6,
+        Single::Zero => 7,
+        Single::Frame => 8,
+        Single::Link => 9,
+        Single::Allocatable => 10,
     }
 }
 
-fn see_item(alloc: Global, seen: &mut Seen, kind: Kind, item: &Item) -> Result<(), AllocError>
-    ensures { OnOk result (seen.new ≡ noted_all (known_names kind) seen.old (names_of kind item.now)) }
+/// Sees an item that may stand once, by the number of its sort.
+fn see_single(alloc: Global, seen: &mut Seen<WidthFault>, item: &Item) -> Result<(), AllocError>
+    ensures { OnOk result (seen.new ≡ noted_all seen.old (single_name item.now)) }
+{
+    match single_of(item) {
+        None => Ok(()),
+        Some((token, single)) => seen.see_text(alloc, token, &[number_of(single)]),
+    }
+}
+
+/// The fault of the items that repeat a sort.
+fn second_single(alloc: Global, items: &[Item]) -> Result<Option<WidthFault>, AllocError>
+    ensures { IfOk result (λ r. r ≡ reported (second_singles [] (flat_map single_item items.now))) }
+{
+    let mut seen = Seen::new(alloc);
+    for item in items {
+        see_single(alloc, &mut seen, item)?;
+    }
+    Ok(seen.fault)
+}
+
+/// The name of a kind that an item declares.
+fn name_of(kind: Kind, item: &Item) -> Option<&Ident>
+    ensures { option_to_list (option_copied result) ≡ names_of kind item.now }
+{
+    match kind {
+        Kind::Space => match item {
+            Item::Space { name, .. } => Some(name),
+            _ => None,
+        },
+        Kind::Function => name_of_function(item),
+        Kind::Instruction => match item {
+            Item::Instruction { name, .. } => Some(name),
+            _ => None,
+        },
+    }
+}
+
+/// What was seen before the names of a kind: operators before functions.
+fn seen_before(alloc: Global, kind: Kind) -> Result<Seen<WidthFault>, AllocError>
+    ensures names { IfOk result (λ seen. HasNames seen.names (known_names kind)) }
+    ensures fault { IfOk result (λ seen. seen.fault ≡ None) }
+{
+    match kind {
+        Kind::Function => Ok(Seen {
+            names: operator_names(alloc)?,
+            fault: None,
+        }),
+        Kind::Space | Kind::Instruction => Ok(Seen::new(alloc)),
+    }
+}
+
+fn see_item(
+    alloc: Global,
+    seen: &mut Seen<WidthFault>,
+    kind: Kind,
+    item: &Item,
+) -> Result<(), AllocError>
+    ensures { OnOk result (seen.new ≡ noted_all seen.old (names_of kind item.now)) }
 {
     match name_of(kind, item) {
         None => Ok(()),
-        Some((token, text)) => see(alloc, seen, token, text, is_known(kind, text)),
+        Some(name) => seen.see(alloc, name),
     }
 }
 
 /// The fault of the names of a kind.
 fn second_name(alloc: Global, kind: Kind, items: &[Item]) -> Result<Option<WidthFault>, AllocError>
-    ensures { IfOk result (λ r. r ≡ told (repeated_after (known_names kind) (flat_map (names_of kind) items.now))) }
+    ensures { IfOk result (λ r. r ≡ reported (repeated_after (known_names kind) (flat_map (names_of kind) items.now))) }
 {
-    let mut seen = Seen {
-        names: NameTable::new(alloc),
-        fault: None,
-    };
+    let mut seen = seen_before(alloc, kind)?;
     for item in items {
         see_item(alloc, &mut seen, kind, item)?;
     }
@@ -133,9 +157,9 @@ fn second_name(alloc: Global, kind: Kind, items: &[Item]) -> Result<Option<Width
 
 /// The fault of the names that stand twice.
 pub(crate) fn second_names(alloc: Global, items: &[Item]) -> Result<Option<WidthFault>, AllocError>
-    ensures { IfOk result (λ r. r ≡ told (all_second_names items.now)) }
+    ensures { IfOk result (λ r. r ≡ reported (all_second_declarations items.now)) }
 {
-    let single = second_name(alloc, Kind::Single, items)?;
+    let single = second_single(alloc, items)?;
     let spaces = second_name(alloc, Kind::Space, items)?;
     let functions = second_name(alloc, Kind::Function, items)?;
     let instructions = second_name(alloc, Kind::Instruction, items)?;
@@ -147,15 +171,11 @@ pub(crate) fn params_fault(
     alloc: Global,
     params: &[Param],
 ) -> Result<Option<WidthFault>, AllocError>
-    ensures { IfOk result (λ r. r ≡ told (params_faults params.now)) }
+    ensures { IfOk result (λ r. r ≡ reported (params_faults params.now)) }
 {
-    let mut seen = Seen {
-        names: NameTable::new(alloc),
-        fault: None,
-    };
+    let mut seen = Seen::new(alloc);
     for param in params {
-        let name = &param.name;
-        see(alloc, &mut seen, name.token, name.text.as_slice(), false)?;
+        seen.see(alloc, &param.name)?;
     }
     Ok(seen.fault)
 }
@@ -165,15 +185,11 @@ pub(crate) fn operand_names_fault(
     alloc: Global,
     operands: &[Operand],
 ) -> Result<Option<WidthFault>, AllocError>
-    ensures { IfOk result (λ r. r ≡ told (repeated_names (map (λ o. o.name) operands.now))) }
+    ensures { IfOk result (λ r. r ≡ reported (repeated_names (map (λ o. o.name) operands.now))) }
 {
-    let mut seen = Seen {
-        names: NameTable::new(alloc),
-        fault: None,
-    };
+    let mut seen = Seen::new(alloc);
     for operand in operands {
-        let name = &operand.name;
-        see(alloc, &mut seen, name.token, name.text.as_slice(), false)?;
+        seen.see(alloc, &operand.name)?;
     }
     Ok(seen.fault)
 }

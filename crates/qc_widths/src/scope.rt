@@ -1,8 +1,8 @@
 //! What names stand for where an expression is evaluated.
 ghost use Rattle.std.specs.Prelude.{◌≡◌, ◌≤◌, ℕ, List, length};
 ghost use Rattle.qc_widths.specs.Declarations.{bound_operands, place_of};
-ghost use Rattle.qc_widths.specs.Evaluated.{AreBelow, AreParams, IsFound, IsFoundBelow, IsScope, IsSettled};
-ghost use Rattle.qc_widths.specs.Evaluated.{meanings_of};
+ghost use Rattle.qc_widths.specs.Inner.KeptValues.{AreBelow, AreParams, IsFound, IsFoundBelow, IsScope, IsSettled};
+ghost use Rattle.qc_widths.specs.Inner.KeptValues.{meanings_of};
 ghost use Rattle.qc_widths.specs.Scopes as scopes;
 ghost use Rattle.qc_widths.specs.Scopes.{Bound as SpecBound, Meaning, Scope as SpecScope, bound_in, local_bound, named};
 

@@ -1,12 +1,11 @@
-//! What is told of functions and named effects without their uses.
-ghost use Rattle.std.specs.Prelude.{◌≡◌, ◌++◌, [], cond, true, false, length, map, take, IfOk, OnOk};
+//! What is known of functions and named effects without their uses.
+ghost use Rattle.std.specs.Prelude.{◌≡◌, ◌++◌, [], cond, true, false, length, map, take, IfOk, OnOk, is_some};
 ghost use Rattle.std.specs.List.{list_all};
-ghost use Rattle.qc_names.specs.Tables.{is_there};
 ghost use Rattle.qc_widths.specs.Scopes as scopes;
 ghost use Rattle.qc_widths.specs.Declarations as declared;
-ghost use Rattle.qc_widths.specs.Functions.{IsTableOf};
-ghost use Rattle.qc_widths.specs.Summaries as summaries;
-ghost use Rattle.qc_widths.specs.NamesAt.{names_at, IsReady};
+ghost use Rattle.qc_widths.specs.Inner.FunctionTables.{IsTableOf};
+ghost use Rattle.qc_widths.specs.Inner.KeptSignatures as summaries;
+ghost use Rattle.qc_widths.specs.Inner.KeptNames.{names_at, IsReady};
 
 use crate::facts::Facts;
 use crate::functions::Functions;
@@ -64,7 +63,7 @@ pub(crate) fn joined_events(events: Events, more: Events) -> Events
 }
 
 fn all_plain(params: &[Option<u128>]) -> bool
-    ensures { result ≡ list_all (λ p. cond (is_there p) false true) params.now }
+    ensures { result ≡ list_all (λ p. cond (is_some p) false true) params.now }
 {
     for param in params {
         if param.is_some() {
@@ -217,7 +216,7 @@ fn add_signature(
     }
 }
 
-/// What is told of all functions and named effects without their uses, in order.
+/// What is known of all functions and named effects without their uses, in order.
 pub(crate) fn signatures(
     alloc: Global,
     facts: &Facts,

@@ -1,7 +1,7 @@
 //! The width of words and the spaces that items declare.
 ghost use Rattle.std.specs.Prelude.{◌≡◌, ◌++◌, ◌∷◌, [], OnOk, IfOk};
 ghost use Rattle.qc_widths.specs.Declarations.{word_in, spaces_in};
-ghost use Rattle.qc_widths.specs.Tables.{HasTable};
+ghost use Rattle.qc_widths.specs.Inner.SpaceTables.{HasTable};
 
 use crate::facts::SpaceFacts;
 use crate::numbers::width_in;

@@ -3,19 +3,19 @@ ghost use Rattle.std.specs.Prelude.{◌≡◌, ◌≤◌, IfOk, List, false, nat
 ghost use Rattle.qc_words.specs.Operators.{is_unary as is_unary_operator, result_width_of};
 ghost use Rattle.qc_terms.specs.Tree.{tree_of, nodes_of};
 ghost use Rattle.qc_widths.specs.declared.faults.WidthFault.{WidthFault as Fault};
-ghost use Rattle.qc_widths.specs.Evaluated.{IsValue};
-ghost use Rattle.qc_widths.specs.Faults.{told};
+ghost use Rattle.qc_widths.specs.Inner.KeptValues.{IsValue};
+ghost use Rattle.qc_widths.specs.Faults.{reported};
 ghost use Rattle.qc_widths.specs.Values as values;
 
 use crate::faults::WidthFault;
-use crate::order::earlier;
 use crate::terms::copy_term;
+use qc_names::earlier;
 use qc_terms::Term;
 use qc_words::{Op, Width};
 use std::alloc::{AllocError, Global};
 
 /// The most nodes that a term may have.
-pub(crate) const LIMIT: u32 = 4096;
+pub(crate) const MOST_NODES: u32 = 4096;
 
 /// What an expression comes to. Of a term with more nodes than the limit nothing else is kept.
 #[derive(Debug, Drop)]
@@ -74,7 +74,7 @@ impl Value {
 }
 
 /// An expression of one node.
-#[tactic(auto, unfolding(crate::specs::Evaluated::seen))]
+#[tactic(auto, unfolding(crate::specs::Inner::KeptValues::seen))]
 pub(crate) fn leaf(token: usize, term: Term, width: Option<Width>) -> Value
     requires { nodes_of (tree_of term) ≡ 1 }
     ensures { IsValue result (values.leaf token term width) }
@@ -89,8 +89,8 @@ pub(crate) fn leaf(token: usize, term: Term, width: Option<Width>) -> Value
     }
 }
 
-/// An expression in which a fault stands that is told elsewhere.
-#[tactic(auto, unfolding(crate::specs::Evaluated::seen))]
+/// An expression in which a fault stands that is reported elsewhere.
+#[tactic(auto, unfolding(crate::specs::Inner::KeptValues::seen))]
 pub(crate) fn faulty(token: usize) -> Value
     ensures { IsValue result (values.faulty token) }
 {
@@ -107,7 +107,7 @@ pub(crate) fn faulty(token: usize) -> Value
     }
 }
 
-/// What a node is built from: its term and the number of the term's nodes, its width where it is sound, what is told of
+/// What a node is built from: its term and the number of the term's nodes, its width where it is sound, what is reported of
 /// the clashes in its parts, and its own clash.
 #[derive(Drop)]
 pub(crate) struct Built {
@@ -123,7 +123,7 @@ pub(crate) struct Built {
 /// A node over parts, whose term isn't too large.
 pub(crate) fn node(built: Built) -> Value
     ensures { (inner own : List Fault) → built.nodes ≡ nodes_of (tree_of built.term) → built.nodes ≤ 4096
-        → built.inner ≡ told inner → built.own ≡ told own
+        → built.inner ≡ reported inner → built.own ≡ reported own
         → IsValue result (values.node built.token built.term built.width built.sound inner own) }
 {
     let Built {

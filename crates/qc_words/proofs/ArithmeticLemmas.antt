@@ -7,7 +7,8 @@ use Rattle.std.proofs.lemmas.Int.{ints, int_rem_euclid_is, quot-rem}
 use Rattle.qc_words.specs.Operators.{result_of, difference_of, negation_of}
 use Rattle.qc_words.specs.Words.{signed_of, word_of}
 use Rattle.qc_words.specs.declared.operator.Op.TheVariants.{Add, Sub, Mul, Divu, Modu, Quot, Rem, Neg}
-use Rattle.qc_words.proofs.WordLemmas.{word_of-pos, word_of-signed_of, word_of-lt}
+use Rattle.qc_words.proofs.WordLemmas.{word_of-signed_of}
+use Rattle.qc_words.specs.Law.Results.{word_of-pos, word_of-lt}
 
 -- z and some multiple of 2 ^ w make the natural m
 pub word_of-shifted : (w : ℕ) (z : ℤ) (k m : ℕ) → z +ℤ pos (k * 2 ^ w) ≡ pos m → word_of w z ≡ m % 2 ^ w

@@ -8,7 +8,8 @@ use Rattle.qc_words.specs.Operators.{result_of}
 use Rattle.qc_words.specs.Words.{signed_of, word_of, FitsSignedWord}
 use Rattle.qc_words.specs.declared.operator.Op.TheVariants.{Divu, Modu, Quot, Rem}
 use Rattle.qc_words.proofs.ArithmeticLemmas.{positive_test}
-use Rattle.qc_words.proofs.WordLemmas.{twice_half, word_of-pos, signed_of-low, signed_of-high, signed_of-range, signed_of-word_of}
+use Rattle.qc_words.specs.Law.Results.{word_of-pos}
+use Rattle.qc_words.proofs.WordLemmas.{twice_half, signed_of-low, signed_of-high, signed_of-range, signed_of-word_of}
 
 pub quotient_of-unsigned : (w a b : ℕ) → 0 < b → result_of Divu w a b * b + result_of Modu w a b ≡ a
 quotient_of-unsigned w a zero positive = absurd (omega arith)

@@ -1,51 +1,8 @@
 -- Lemmas on the operators' values at words of any width.
-use Rattle.std.proofs.Common.{◌≡◌, ℕ, ℤ, pos, negsuc, nat_lt, nat_le, int_lt, int_le, not, refl, sym, ap, ◌∙◌, ◌-◌, ◌%◌, ◌^◌, ◌<◌, ◌==◌, Bool, true, false, if◌then◌else◌, arith}
-use Rattle.std.proofs.Math.Nat.{mod-lt, mod-le, div-le_self}
-use Rattle.std.proofs.lemmas.Nat.{pow_pos, shr_le, and_le_l, or_lt, xor_lt}
+use Rattle.std.proofs.Common.{◌≡◌, ℕ, ℤ, pos, negsuc, nat_lt, nat_le, int_lt, int_le, not, refl, sym, ap, ◌∙◌, ◌-◌, ◌==◌, Bool, true, false, arith}
 use Rattle.qc_words.specs.Words.{signed_of}
-use Rattle.qc_words.specs.Operators.{result_of, result_width_of, Accepts, truth_of}
-use Rattle.qc_words.specs.declared.operator.Op.{Op}
-use Rattle.qc_words.specs.declared.operator.Op.TheVariants.{Add, Sub, Mul, Divu, Modu, Quot, Rem, And, Or, Xor, Com, Neg, Shl, Shrl, Shra, Eq, Ne, Lt, Ge, Ltu, Geu, Zx, Sx, Slice}
-use Rattle.qc_words.proofs.WordLemmas.{word_of-lt, word_of_wider}
-
-truth_of-lt : (test : Bool) → truth_of test < 2 ^ 1
-truth_of-lt true = omega arith
-truth_of-lt false = omega arith
-
-if-lt : (test : Bool) (m n bound : ℕ) → m < bound → n < bound → (if test then m else n) < bound
-if-lt true m n bound first second = first
-if-lt false m n bound first second = second
-
--- each operator's value is a word of the width of its result
-pub result_of-lt : (op : Op) (w a b : ℕ) → Accepts op w → a < 2 ^ w → b < 2 ^ w →
-    result_of op w a b < 2 ^ result_width_of op w
-result_of-lt Add w a b accepted left right = mod-lt _ (pow_pos w)
-result_of-lt Sub w a b accepted left right = word_of-lt w _
-result_of-lt Mul w a b accepted left right = mod-lt _ (pow_pos w)
-result_of-lt Divu w a b accepted left right =
-    if-lt (b == 0) (2 ^ w - 1) _ (2 ^ w) (omega (arith, pow_pos w)) (omega (arith, div-le_self a b))
-result_of-lt Modu w a b accepted left right =
-    if-lt (b == 0) a _ (2 ^ w) left (omega (arith, mod-le a b))
-result_of-lt Quot w a b accepted left right =
-    if-lt (b == 0) (2 ^ w - 1) _ (2 ^ w) (omega (arith, pow_pos w)) (word_of-lt w _)
-result_of-lt Rem w a b accepted left right = if-lt (b == 0) a _ (2 ^ w) left (word_of-lt w _)
-result_of-lt And w a b accepted left right = omega (arith, and_le_l a b)
-result_of-lt Or w a b accepted left right = or_lt w a b left right
-result_of-lt Xor w a b accepted left right = xor_lt w a b left right
-result_of-lt Com w a b accepted left right = omega (arith, pow_pos w)
-result_of-lt Neg w a b accepted left right = word_of-lt w _
-result_of-lt Shl w a b accepted left right = mod-lt _ (pow_pos w)
-result_of-lt Shrl w a b accepted left right = omega (arith, shr_le a (b % w))
-result_of-lt Shra w a b accepted left right = word_of-lt w _
-result_of-lt Eq w a b accepted left right = truth_of-lt _
-result_of-lt Ne w a b accepted left right = truth_of-lt _
-result_of-lt Lt w a b accepted left right = truth_of-lt _
-result_of-lt Ge w a b accepted left right = truth_of-lt _
-result_of-lt Ltu w a b accepted left right = truth_of-lt _
-result_of-lt Geu w a b accepted left right = truth_of-lt _
-result_of-lt (Zx to) w a b accepted left right = word_of_wider a w to left accepted
-result_of-lt (Sx to) w a b accepted left right = word_of-lt to _
-result_of-lt (Slice low to) w a b accepted left right = mod-lt _ (pow_pos to)
+use Rattle.qc_words.specs.Operators.{result_of, truth_of}
+use Rattle.qc_words.specs.declared.operator.Op.TheVariants.{Eq, Ne, Lt, Ge, Ltu, Geu}
 
 -- ---- comparisons
 

@@ -8,7 +8,8 @@ use Rattle.std.proofs.lemmas.Bool.{cases_lt}
 use Rattle.qc_words.specs.Operators.{result_of, difference_of, shift_left_of, slice_of, sign_extension_of, signed_shift_right_of}
 use Rattle.qc_words.specs.declared.operator.Op.TheVariants.{Add, Sub, And}
 use Rattle.qc_words.proofs.ArithmeticLemmas.{difference_of-natural}
-use Rattle.qc_words.proofs.WordLemmas.{mod-mod_narrower, word_of-lt, slice_of-sign_extension, bit_at-mod, bit_at-shifted_sign, bit_at-sign_extension, bit_at-shift_left_high}
+use Rattle.qc_words.specs.Law.Results.{word_of-lt}
+use Rattle.qc_words.proofs.WordLemmas.{mod-mod_narrower, slice_of-sign_extension, bit_at-mod, bit_at-shifted_sign, bit_at-sign_extension, bit_at-shift_left_high}
 
 pub sum_undoes_difference : (w a b : ℕ) → a < 2 ^ w → b < 2 ^ w → result_of Add w (result_of Sub w a b) b ≡ a
 sum_undoes_difference w a b left right =

@@ -1,5 +1,5 @@
 -- Lemmas on words of any width.
-use Rattle.std.proofs.Common.{FitsSigned, ◌≡◌, ℕ, suc, ◌+◌, ◌-◌, ◌*◌, ◌%◌, ◌^◌, ◌<◌, ◌≤◌, ◌/◌, ℤ, pos, negsuc, min, inl, inr, add-zero, refl, sym, ◌∙◌, ap, subst, arith}
+use Rattle.std.proofs.Common.{FitsSigned, ◌≡◌, ℕ, suc, ◌+◌, ◌-◌, ◌*◌, ◌%◌, ◌^◌, ◌<◌, ◌≤◌, ◌/◌, ℤ, pos, negsuc, min, inl, inr, add-zero, sym, ◌∙◌, ap, subst, arith}
 use Rattle.std.proofs.Math.Nat.{pow-le-pow_right, mod-eq_of_lt, two-pow-succ, mod-mod_of_dvd, mod-lt, dvd-mul_left, div-one}
 use Rattle.std.proofs.lemmas.Nat.{pow_pos, pow-add, mod_low, shr_high, shr_split, shr-shr, div_below, le-div}
 use Rattle.std.proofs.lemmas.Bool.{cases_lt}
@@ -8,11 +8,7 @@ use Rattle.std.proofs.lemmas.Nat.Bits.{bit_at_cat_low, bit_at_cat_high, bit_at_a
 use Rattle.std.specs.Int.{◌∣◌, bit_at, int_shr, w128, cast_unsigned}
 use Rattle.qc_words.specs.Operators.{complement_of, amount_of, shift_left_of, slice_of, sign_extension_of}
 use Rattle.qc_words.specs.Words.{signed_of, word_of, FitsSignedWord}
-
--- a word is a word of each wider width
-pub word_of_wider : (a w n : ℕ) → a < 2 ^ w → w ≤ n → a < 2 ^ n
-word_of_wider a w n below wider =
-    let powers : 2 ^ w ≤ 2 ^ n = pow-le-pow_right (omega arith) wider in omega arith
+use Rattle.qc_words.specs.Law.Results.{word_of-pos, word_of-negsuc}
 
 -- half of the words of a width are not negative
 pub twice_half : (w : ℕ) → 1 ≤ w → 2 ^ w ≡ 2 * 2 ^ (w - 1)
@@ -20,20 +16,6 @@ twice_half w positive =
     let step : w ≡ suc (w - 1) = omega arith in
     let e : 2 ^ w ≡ 2 ^ suc (w - 1) = ap (λ k. 2 ^ k) step in
     omega (arith, two-pow-succ (w - 1))
-
--- ---- the word for a number
-
-pub word_of-pos : (w n : ℕ) → word_of w (pos n) ≡ n % 2 ^ w
-unfolding word_of
-word_of-pos w n = refl
-
-pub word_of-negsuc : (w n : ℕ) → word_of w (negsuc n) ≡ 2 ^ w - 1 - n % 2 ^ w
-unfolding word_of
-word_of-negsuc w n = refl
-
-pub word_of-lt : (w : ℕ) (z : ℤ) → word_of w z < 2 ^ w
-word_of-lt w (pos n) = rw (word_of-pos w n) (mod-lt n (pow_pos w))
-word_of-lt w (negsuc n) = rw (word_of-negsuc w n) (omega (arith, pow_pos w))
 
 -- ---- the signed number of a word
 

@@ -1,3 +1,4 @@
+pub mod Law
 pub mod Operators
 pub mod Width
 pub mod Words

@@ -8,7 +8,7 @@ use crate::width::Width;
 /// An operator on words of one width. A width that the operator carries is that of its result; the
 /// comparisons have width 1, and the others the width of their operands. An operator of one operand
 /// ignores the second.
-#[derive(Clone, Copy, Debug, PartialEq, Eq)]
+#[derive(Clone, Copy, Debug, PartialEq, Eq, Hash)]
 pub enum Op {
     Add,
     Sub,
@@ -302,6 +302,3 @@ pub fn result_width(op: Op, w: Width) -> Width
         _ => w,
     }
 }
-
-#[cfg(test)]
-mod tests;

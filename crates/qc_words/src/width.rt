@@ -4,7 +4,7 @@ ghost use Rattle.std.specs.Prelude.{◌≡◌, ◌<◌, ◌^◌, ◌↔◌, IsTr
 use std::marker::Model;
 
 /// A number of bits from 1 to 64. Contracts see it as that number.
-#[derive(Clone, Copy, Debug, PartialEq, Eq)]
+#[derive(Clone, Copy, Debug, PartialEq, Eq, Hash)]
 pub struct Width(u8);
 
 impl Model for Width {
@@ -50,20 +50,5 @@ impl Width {
         ensures { IsTrue result ↔ (number < 2 ^ self) }
     {
         u128::from(number) < 1u128 << self.0
-    }
-}
-
-#[cfg(test)]
-mod tests {
-    use super::*;
-
-    #[test]
-    fn ends(rt: HostRuntime) {
-        for (n, exists) in [(0, false), (1, true), (64, true), (65, false)] {
-            assert_eq!(rt; Width::new(n).is_some(), exists, "at {n}");
-        }
-        assert_eq!(rt; Width::ONE.bits(), 1);
-        assert!(rt; Width::ONE.holds(1));
-        assert!(rt; !Width::ONE.holds(2));
     }
 }

@@ -3,7 +3,7 @@ ghost use Rattle.std.specs.Prelude.{◌≡◌, ◌≢◌, ◌<◌, ◌≤◌, �
 ghost use Rattle.std.specs.Prelude.{None, length, if◌then◌else◌};
 ghost use Rattle.std.specs.Io.KnownBytes.{Appends};
 ghost use Rattle.qc_outside.specs.Files.{file_limit};
-ghost use Rattle.qc_outside.specs.Faults.{next_count};
+ghost use Rattle.qc_outside.specs.FaultCounts.{next_count};
 
 use qc_outside::{ReadEnd, Shelf, StoreEnd, is_too_long, wanted_after};
 use std::alloc::Global;
@@ -66,7 +66,7 @@ pub(crate) fn counted(faults: u64, failed: bool) -> u64
     }
 }
 
-/// The files of the system, which tell nothing of what they hold.
+/// The files of the system, of which nothing is known but the faults.
 #[derive(Drop)]
 pub(crate) struct FileShelf<'a, R> {
     rt: &'a R,

@@ -1,12 +1,12 @@
 //! The output of the system.
-ghost use Rattle.std.specs.Prelude.{◌≡◌, None};
+ghost use Rattle.std.specs.Prelude.{◌≡◌, None, refl};
 
 use crate::files::{counted, write_whole};
 use qc_outside::{Out, StoreEnd};
 use std::alloc::Global;
 use std::io;
 
-/// The output of the system, which tells nothing of what it was given.
+/// The output of the system, of which nothing is known but its faults.
 #[derive(Drop)]
 pub(crate) struct StandardOut<'a, P> {
     rt: &'a P,
@@ -22,9 +22,13 @@ impl<'a, P: Print> StandardOut<'a, P> {
 }
 
 impl<'a, P: Print> Out for StandardOut<'a, P> {
+    ghost pieces = { λ _. None };
+
     ghost written = { λ _. None };
 
     ghost faults = { λ out. out.faults };
+
+    ghost joined = { λ _. refl };
 
     fn put(&mut self, _alloc: Global, piece: &[u8]) -> Result<(), StoreEnd> {
         let put = write_whole(&mut io::writer(self.rt), piece);

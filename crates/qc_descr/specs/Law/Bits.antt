@@ -1,10 +1,11 @@
 -- Each bit of a coding stands in one of its bytes in memory, and no other bits do.
-use Rattle.std.proofs.Common.{◌≡◌, ℕ, zero, suc, ◌+◌, ◌*◌, ◌/◌, ◌<◌, List, [], ◌∷◌, ◌++◌, length, take, drop, sum, Bool, true, false, cond, IsTrue, refl, sym, ◌∙◌, ap, subst, arith, inl, inr, count_by, nat_eq}
+use Rattle.std.proofs.Common.{◌≡◌, ℕ, zero, suc, ◌+◌, ◌*◌, ◌/◌, ◌<◌, List, [], ◌∷◌, length, take, drop, sum, Bool, true, false, cond, IsTrue, refl, sym, ◌∙◌, ap, subst, arith, inl, inr, count_by, nat_eq}
 use Rattle.std.specs.Prelude.{reverse}
 use Rattle.std.specs.List.{AllByRecursion, list_all, list_any}
 use Rattle.std.proofs.lemmas.Bool.{and_from, and_parts, both_ways, cases_Bool, cases_eq, eq-eqb, eqb-true, or_cases, or_left, or_parts, or_right}
 use Rattle.std.proofs.lemmas.List.{drop-take, length-drop, nil_from_length, reverse-append, take-append-drop, take-take}
 use Rattle.std.proofs.lemmas.List.Sums.{sum_by-cons}
+use Rattle.qc_lists.specs.Law.Lists.{each_append, each_of_append}
 use Rattle.qc_terms.specs.declared.state.Order.{Order}
 use Rattle.qc_terms.specs.declared.state.Order.TheVariants.{Little, Big}
 use Rattle.qc_descr.specs.declared.coding.Bit.{Bit}
@@ -15,16 +16,6 @@ use Rattle.qc_descr.specs.Valid.{all_below, is_token}
 use Rattle.qc_descr.specs.Law.Places.{token_size}
 
 -- what holds of each element of a list, by recursion on it
-pub each_append : {X : Type 0} (P : X → Type 0) (xs ys : List X) → AllByRecursion P xs → AllByRecursion P ys → AllByRecursion P (xs ++ ys)
-each_append P [] ys h k = k
-each_append P (x ∷ xs) ys h k = (h.0, each_append P xs ys h.1 k)
-
-pub each_of_append : {X : Type 0} (P : X → Type 0) (xs ys : List X) → AllByRecursion P (xs ++ ys) → AllByRecursion P xs × AllByRecursion P ys
-each_of_append P [] ys h = (tt, h)
-each_of_append P (x ∷ xs) ys h =
-    let parts : AllByRecursion P xs × AllByRecursion P ys = each_of_append P xs ys h.1 in
-    ((h.0, parts.0), parts.1)
-
 pub each_of_parts : {X : Type 0} (P : X → Type 0) (n : ℕ) (xs : List X) → AllByRecursion P (take n xs) → AllByRecursion P (drop n xs) → AllByRecursion P xs
 each_of_parts P n xs h k = subst (AllByRecursion P) (take-append-drop n xs) (each_append P (take n xs) (drop n xs) h k)
 

@@ -5,24 +5,13 @@ use Rattle.std.proofs.lemmas.Bool.{and_parts}
 use Rattle.std.proofs.lemmas.Grind.{common_steps}
 use Rattle.std.proofs.lemmas.Option.{slice_get-get_or, get_or_from_slice_get}
 use Rattle.std.proofs.lemmas.List.{drop-drop, get_or-reverse, length-reverse, length-drop, drop_more}
+use Rattle.qc_lists.specs.Law.Lists.{slice_get-append_left, slice_get-append_right}
 use Rattle.qc_terms.specs.declared.state.Order.{Order}
 use Rattle.qc_terms.specs.declared.state.Order.TheVariants.{Little, Big}
 use Rattle.qc_descr.specs.declared.coding.Bit.{Bit}
 use Rattle.qc_descr.specs.Coding.{bytes_of_bits, token_bytes, tokens_bytes}
 use Rattle.qc_descr.specs.Valid.{is_token}
 use Rattle.std.proofs.lemmas.List.Sums.{sum_by-cons}
-
--- a list behind another one
-pub slice_get-append_left : {X : Type 0} (xs ys : List X) (k : ℕ) → k < length xs → slice_get (xs ++ ys) k ≡ slice_get xs k
-slice_get-append_left [] ys k h = absurd (omega arith)
-slice_get-append_left (x ∷ xs) ys zero h = refl
-slice_get-append_left (x ∷ xs) ys (suc k) h = slice_get-append_left xs ys k (omega arith)
-
-pub slice_get-append_right : {X : Type 0} (xs ys : List X) (k : ℕ) → slice_get (xs ++ ys) (length xs + k) ≡ slice_get ys k
-slice_get-append_right [] ys k = let e : 0 + k ≡ k = omega arith in ap (slice_get ys) e
-slice_get-append_right (x ∷ xs) ys k =
-    let e : suc (length xs) + k ≡ suc (length xs + k) = omega arith in
-    ap (slice_get (x ∷ (xs ++ ys))) e ∙ slice_get-append_right xs ys k
 
 pub length-bytes_of_bits : (n : ℕ) (bits : List Bit) → length (bytes_of_bits n bits) ≡ n
 length-bytes_of_bits zero bits = refl

@@ -1,25 +1,25 @@
-//! What is told of effects without their uses: a fault, events, and the targets of a name.
+//! What is reported of effects without their uses: a fault, events, and the targets of a name.
 ghost use Rattle.std.specs.Prelude.{◌≡◌, ◌++◌, Some, length, map, drop};
 ghost use Rattle.std.specs.List.{flat_map};
 ghost use Rattle.std.specs.Option.{option_map, option_copied};
 ghost use Rattle.qc_widths.specs.declared.faults.WidthFault.TheVariants.{TwiceNamed};
-ghost use Rattle.qc_widths.specs.Faults.{told};
+ghost use Rattle.qc_widths.specs.Faults.{reported};
 ghost use Rattle.qc_widths.specs.Expressions as written;
 ghost use Rattle.qc_widths.specs.Effects as acting;
-ghost use Rattle.qc_widths.specs.Summaries.{summary, least, events_in, at_most_one};
-ghost use Rattle.qc_widths.specs.NamesAt.{names_at, IsReady};
-ghost use Rattle.qc_widths.specs.ArgumentFaults.{one_target_faults, one_target_at};
+ghost use Rattle.qc_widths.specs.Inner.KeptSignatures.{summary, least, events_in, at_most_one};
+ghost use Rattle.qc_widths.specs.Inner.KeptNames.{names_at, IsReady};
+ghost use Rattle.qc_widths.specs.Inner.ArgumentFaults.{one_target_faults, one_target_at};
 
 use crate::facts::Local;
 use crate::faults::WidthFault;
-use crate::names::expressions::{argument_fault, expression_fault, known_or, plain_fault};
+use crate::names::expressions::{argument_fault, expression_fault, plain_fault};
 use crate::names::{Names, bare_name, cell_fault, local_in, signature_in, word_in};
 use crate::numbers::access_fault;
 use crate::operators::operator_named;
-use crate::order::earlier;
 use crate::signatures::{Events, NO_EVENTS, Signature, joined_events, lesser, takes};
+use qc_grammar::Ident;
 use qc_lrtl::{Effect, Expr, Guard, Simple};
-use qc_text::Ident;
+use qc_names::{earlier, known_or};
 
 /// The name may be a target.
 fn fits_target(names: &Names<'_>, name: &Ident) -> bool
@@ -44,7 +44,7 @@ fn argument_fits(names: &Names<'_>, arg: &Expr) -> bool
 /// The fault of an argument for a parameter that stands for targets, the first of which is at this token.
 fn one_target_fault(names: &Names<'_>, target: Option<usize>, arg: &Expr) -> Option<WidthFault>
     ensures { result
-        ≡ told (one_target_faults (names_at names.now) (at_most_one target) (written.expression_of arg.now)) }
+        ≡ reported (one_target_faults (names_at names.now) (at_most_one target) (written.expression_of arg.now)) }
 {
     if argument_fits(names, arg) {
         return None;
@@ -57,7 +57,7 @@ fn one_target_fault(names: &Names<'_>, target: Option<usize>, arg: &Expr) -> Opt
 
 /// The fault of arguments for parameters that stand for targets, the first of which are at these tokens.
 fn target_fault(names: &Names<'_>, targets: &[Option<usize>], args: &[Expr]) -> Option<WidthFault>
-    ensures { result ≡ told (acting.target_faults (names_at names.now) (map at_most_one targets.now)
+    ensures { result ≡ reported (acting.target_faults (names_at names.now) (map at_most_one targets.now)
         (map written.expression_of args.now)) }
 {
     let mut found = None;
@@ -87,7 +87,7 @@ fn effects_named<'a>(names: &Names<'a>, name: &Ident, count: usize) -> Option<&'
 /// The fault of a use of named effects.
 fn use_fault(names: &Names<'_>, name: &Ident, args: &[Expr]) -> Option<WidthFault>
     requires { IsReady names.now }
-    ensures { result ≡ told (acting.effects_faults (names_at names.now)
+    ensures { result ≡ reported (acting.effects_faults (names_at names.now)
         (acting.effects_named (names_at names.now) name.now (length args.now)) name.now.token
         (map written.expression_of args.now)) }
 {
@@ -103,10 +103,10 @@ fn use_fault(names: &Names<'_>, name: &Ident, args: &[Expr]) -> Option<WidthFaul
     }
 }
 
-#[tactic(auto, using(crate::proofs::Told::told_parts))]
+#[tactic(auto, using(qc_names::specs::Law::Reported::reported_parts))]
 fn simple_fault(names: &Names<'_>, simple: &Simple) -> Option<WidthFault>
     requires { IsReady names.now }
-    ensures { result ≡ told (acting.simple_faults (names_at names.now) simple.now) }
+    ensures { result ≡ reported (acting.simple_faults (names_at names.now) simple.now) }
 {
     match simple {
         Simple::Pc { value, .. }
@@ -141,7 +141,7 @@ fn simple_fault(names: &Names<'_>, simple: &Simple) -> Option<WidthFault>
 
 fn guard_fault(names: &Names<'_>, guard: &Option<Guard>) -> Option<WidthFault>
     requires { IsReady names.now }
-    ensures { result ≡ told (acting.guard_faults (names_at names.now) guard.now) }
+    ensures { result ≡ reported (acting.guard_faults (names_at names.now) guard.now) }
 {
     match guard {
         Some(guard) => expression_fault(names, &guard.condition),
@@ -149,10 +149,10 @@ fn guard_fault(names: &Names<'_>, guard: &Option<Guard>) -> Option<WidthFault>
     }
 }
 
-#[tactic(auto, unfolding(crate::specs::Effects::effect_faults), using(crate::proofs::Told::told_parts))]
+#[tactic(auto, unfolding(crate::specs::Effects::effect_faults), using(qc_names::specs::Law::Reported::reported_parts))]
 fn effect_fault(names: &Names<'_>, effect: &Effect) -> Option<WidthFault>
     requires { IsReady names.now }
-    ensures { result ≡ told (acting.effect_faults (names_at names.now) effect.now) }
+    ensures { result ≡ reported (acting.effect_faults (names_at names.now) effect.now) }
 {
     earlier(
         guard_fault(names, &effect.guard),
@@ -161,10 +161,10 @@ fn effect_fault(names: &Names<'_>, effect: &Effect) -> Option<WidthFault>
 }
 
 /// The fault of effects.
-#[tactic(auto, using(crate::proofs::Told::told_parts))]
+#[tactic(auto, using(qc_names::specs::Law::Reported::reported_parts))]
 pub(crate) fn body_fault(names: &Names<'_>, body: &[Effect]) -> Option<WidthFault>
     requires { IsReady names.now }
-    ensures { result ≡ told (flat_map (acting.effect_faults (names_at names.now)) body.now) }
+    ensures { result ≡ reported (flat_map (acting.effect_faults (names_at names.now)) body.now) }
 {
     let mut found = None;
     for effect in body {
@@ -210,7 +210,7 @@ pub(crate) fn body_events(names: &Names<'_>, body: &[Effect]) -> Events
 pub(crate) fn twice_fault(names: &Names<'_>, body: &[Effect]) -> Option<WidthFault>
     requires { IsReady names.now }
     ensures { result
-        ≡ told (map TwiceNamed (drop 1 (flat_map (acting.effect_events (names_at names.now)) body.now))) }
+        ≡ reported (map TwiceNamed (drop 1 (flat_map (acting.effect_events (names_at names.now)) body.now))) }
 {
     match body_events(names, body).later {
         Some(token) => Some(WidthFault::TwiceNamed { token }),
@@ -219,7 +219,7 @@ pub(crate) fn twice_fault(names: &Names<'_>, body: &[Effect]) -> Option<WidthFau
 }
 
 /// The first of the targets that an argument of this name stands for, where a parameter's first is at this token.
-#[tactic(auto, unfolding(crate::specs::Summaries::least))]
+#[tactic(auto, unfolding(crate::specs::Inner::KeptSignatures::least))]
 fn one_target(name: &[u8], target: Option<usize>, arg: &Expr) -> Option<usize>
     ensures { result ≡ least (one_target_at name.now (at_most_one target) (written.expression_of arg.now)) }
 {
@@ -242,7 +242,7 @@ fn target_at(name: &[u8], targets: &[Option<usize>], args: &[Expr]) -> Option<us
 }
 
 /// The first of the targets of this name in an effect.
-#[tactic(auto, unfolding(crate::specs::Effects::effect_targets, crate::specs::Summaries::least))]
+#[tactic(auto, unfolding(crate::specs::Effects::effect_targets, crate::specs::Inner::KeptSignatures::least))]
 fn effect_target(names: &Names<'_>, name: &[u8], effect: &Effect) -> Option<usize>
     requires { IsReady names.now }
     ensures { result ≡ least (acting.effect_targets (names_at names.now) name.now effect.now) }

@@ -1,20 +1,20 @@
-//! The fault that is told of an expression without its uses.
+//! The fault that is reported of an expression without its uses.
 ghost use Rattle.std.specs.Prelude.{◌≡◌, ◌++◌, Some, false, length, map};
-ghost use Rattle.qc_widths.specs.Faults.{told};
+ghost use Rattle.qc_widths.specs.Faults.{reported, unknown_unless};
 ghost use Rattle.qc_widths.specs.Scopes as scopes;
 ghost use Rattle.qc_widths.specs.Expressions as written;
-ghost use Rattle.qc_widths.specs.NamesAt.{names_at, IsReady};
-ghost use Rattle.qc_widths.specs.ArgumentFaults.{one_argument_faults};
+ghost use Rattle.qc_widths.specs.Inner.KeptNames.{names_at, IsReady};
+ghost use Rattle.qc_widths.specs.Inner.ArgumentFaults.{one_argument_faults};
 
 use crate::facts::Local;
 use crate::faults::WidthFault;
 use crate::names::{Names, bare_name, cell_fault, first_token, local_in, signature_in, word_in};
 use crate::numbers::{access_fault, literal_fault, width_fault};
 use crate::operators::{operands_of, operator_named};
-use crate::order::earlier;
 use crate::signatures::{is_plain, takes};
+use qc_grammar::Ident;
 use qc_lrtl::Expr;
-use qc_text::Ident;
+use qc_names::{earlier, known_or};
 
 fn is_operator_or_function(names: &Names<'_>, arity: u128, name: &[u8]) -> bool
     requires { IsReady names.now }
@@ -55,22 +55,11 @@ fn is_function(names: &Names<'_>, arity: u128, arg: &Expr) -> bool
 /// The fault of a name that stands alone.
 fn alone_fault(names: &Names<'_>, name: &Ident) -> Option<WidthFault>
     ensures { result
-        ≡ told (written.alone_faults (scopes.local_in (names_at names.now) name.now.text) name.now.token) }
+        ≡ reported (written.alone_faults (scopes.local_in (names_at names.now) name.now.text) name.now.token) }
 {
     match local_in(names, name.text.as_slice()) {
         Some(Local::Plain { .. }) => None,
         Some(Local::Applied { .. }) | None => Some(WidthFault::UnknownName { token: name.token }),
-    }
-}
-
-/// The fault of a use of a name, unless that is known.
-pub(crate) fn known_or(known: bool, token: usize) -> Option<WidthFault>
-    ensures { result ≡ told (written.known_or known token) }
-{
-    if known {
-        None
-    } else {
-        Some(WidthFault::UnknownName { token })
     }
 }
 
@@ -79,7 +68,7 @@ pub(crate) fn known_or(known: bool, token: usize) -> Option<WidthFault>
 #[cycle(faults)]
 pub(crate) fn expression_fault(names: &Names<'_>, expr: &Expr) -> Option<WidthFault>
     requires { IsReady names.now }
-    ensures { result ≡ told (written.faults_in (names_at names.now) expr.now) }
+    ensures { result ≡ reported (written.faults_in (names_at names.now) expr.now) }
 {
     match expr {
         Expr::Literal { value, bits } => literal_fault(value, bits),
@@ -98,11 +87,11 @@ pub(crate) fn expression_fault(names: &Names<'_>, expr: &Expr) -> Option<WidthFa
 }
 
 /// The fault of plain arguments.
-#[tactic(auto, using(crate::proofs::Told::told_parts))]
+#[tactic(auto, using(qc_names::specs::Law::Reported::reported_parts))]
 #[cycle(faults)]
 pub(crate) fn plain_fault(names: &Names<'_>, args: &[Expr]) -> Option<WidthFault>
     requires { IsReady names.now }
-    ensures { result ≡ told (written.plain_faults (names_at names.now) (map written.expression_of args.now)) }
+    ensures { result ≡ reported (written.plain_faults (names_at names.now) (map written.expression_of args.now)) }
 {
     let mut found = None;
     for arg in args {
@@ -111,8 +100,8 @@ pub(crate) fn plain_fault(names: &Names<'_>, args: &[Expr]) -> Option<WidthFault
     found
 }
 
-/// The fault of a use, where it is told whether the name is known, or of its plain arguments.
-#[tactic(auto, using(crate::proofs::Told::told_parts))]
+/// The fault of a use, where it is reported whether the name is known, or of its plain arguments.
+#[tactic(auto, using(qc_names::specs::Law::Reported::reported_parts))]
 #[cycle(faults)]
 fn plain_use_fault(
     names: &Names<'_>,
@@ -121,7 +110,7 @@ fn plain_use_fault(
     args: &[Expr],
 ) -> Option<WidthFault>
     requires { IsReady names.now }
-    ensures { result ≡ told (written.known_or known token
+    ensures { result ≡ reported (unknown_unless known token
         ++ written.plain_faults (names_at names.now) (map written.expression_of args.now)) }
 {
     earlier(known_or(known, token), plain_fault(names, args))
@@ -131,7 +120,7 @@ fn plain_use_fault(
 #[cycle(faults)]
 fn one_argument_fault(names: &Names<'_>, param: Option<u128>, arg: &Expr) -> Option<WidthFault>
     requires { IsReady names.now }
-    ensures { result ≡ told (one_argument_faults (names_at names.now) param (written.expression_of arg.now)) }
+    ensures { result ≡ reported (one_argument_faults (names_at names.now) param (written.expression_of arg.now)) }
 {
     match param {
         None => expression_fault(names, arg),
@@ -148,7 +137,7 @@ pub(crate) fn argument_fault(
 ) -> Option<WidthFault>
     requires { IsReady names.now }
     ensures { result
-        ≡ told (written.argument_faults (names_at names.now) params.now (map written.expression_of args.now)) }
+        ≡ reported (written.argument_faults (names_at names.now) params.now (map written.expression_of args.now)) }
 {
     let mut found = None;
     for place in 0..params.len().min(args.len()) {
@@ -162,7 +151,7 @@ pub(crate) fn argument_fault(
 #[cycle(faults)]
 fn declared_use_fault(names: &Names<'_>, name: &Ident, args: &[Expr]) -> Option<WidthFault>
     requires { IsReady names.now }
-    ensures { result ≡ told (written.use_faults_of_signature (names_at names.now) false
+    ensures { result ≡ reported (written.use_faults_of_signature (names_at names.now) false
         (scopes.signature_in (names_at names.now) name.now.text) name.now.token
         (map written.expression_of args.now)) }
 {
@@ -178,7 +167,7 @@ fn declared_use_fault(names: &Names<'_>, name: &Ident, args: &[Expr]) -> Option<
 #[cycle(faults)]
 fn operator_use_fault(names: &Names<'_>, name: &Ident, args: &[Expr]) -> Option<WidthFault>
     requires { IsReady names.now }
-    ensures { result ≡ told (written.use_faults_of_operator (names_at names.now)
+    ensures { result ≡ reported (written.use_faults_of_operator (names_at names.now)
         (scopes.operator_named name.now.text) (scopes.signature_in (names_at names.now) name.now.text) name.now.token
         (map written.expression_of args.now)) }
 {
@@ -198,7 +187,7 @@ fn operator_use_fault(names: &Names<'_>, name: &Ident, args: &[Expr]) -> Option<
 fn use_fault(names: &Names<'_>, name: &Ident, args: &[Expr]) -> Option<WidthFault>
     requires { IsReady names.now }
     ensures { result
-        ≡ told (written.use_faults (names_at names.now) name.now (map written.expression_of args.now)) }
+        ≡ reported (written.use_faults (names_at names.now) name.now (map written.expression_of args.now)) }
 {
     match local_in(names, name.text.as_slice()) {
         Some(Local::Applied { arity }) => {

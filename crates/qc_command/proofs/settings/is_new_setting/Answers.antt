@@ -1,5 +1,5 @@
 use Rattle.qc_command.specs.Command.{texts_of}
-use Rattle.qc_command.specs.Words.{option_of}
+use Rattle.qc_command.specs.Inner.CommandWords.{option_of}
 use Rattle.qc_command.proofs.Readings.{new_setting}
 use Rattle.qc_command.proofs.settings.is_new_setting.Goals as goal
 

@@ -1,6 +1,6 @@
 use Rattle.std.proofs.Common.{arith}
 use Rattle.qc_command.proofs.Readings.{number_of_setting}
-use Rattle.qc_command.specs.Words.{option_of}
+use Rattle.qc_command.specs.Inner.CommandWords.{option_of}
 use Rattle.qc_command.proofs.settings.setting.Goals as goal
 use Rattle.qc_command.proofs.settings.setting.Goals.{else-rule-value-via-then-rule-value+else-value-rule, else-rule-value-via-else-rule-value}
 

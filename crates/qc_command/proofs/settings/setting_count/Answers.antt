@@ -2,7 +2,7 @@ use Rattle.std.proofs.Common.{◌≡◌, ◌<◌, ◌∙◌, [], length, arith, 
 use Rattle.std.proofs.lemmas.List.{get_or-map, length-map, take-map}
 use Rattle.std.specs.List.{slice_index_or}
 use Rattle.qc_command.specs.Command.{texts_of}
-use Rattle.qc_command.specs.Words.{option_of}
+use Rattle.qc_command.specs.Inner.CommandWords.{option_of}
 use Rattle.qc_command.proofs.Readings.{count_at, count_more, none_given}
 use Rattle.qc_command.proofs.settings.setting_count.Goals as goal
 

@@ -2,7 +2,7 @@ use Rattle.std.proofs.Common.{◌≡◌, ◌<◌, ◌∙◌, [], length, arith, 
 use Rattle.std.proofs.lemmas.List.{get_or-map, length-map}
 use Rattle.std.specs.List.{slice_index_or}
 use Rattle.qc_command.specs.Command.{texts_of}
-use Rattle.qc_command.specs.Words.{option_of}
+use Rattle.qc_command.specs.Inner.CommandWords.{option_of}
 use Rattle.qc_command.proofs.Readings.{set_at, unset_more}
 use Rattle.qc_command.proofs.settings.value_in.Goals as goal
 

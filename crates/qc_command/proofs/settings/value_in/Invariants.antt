@@ -1,6 +1,6 @@
 use Rattle.std.proofs.Common.{take}
 use Rattle.qc_command.specs.Command.{texts_of}
-use Rattle.qc_command.specs.Words.{option_of, IsUnset}
+use Rattle.qc_command.specs.Inner.CommandWords.{option_of, IsUnset}
 use Rattle.qc_command.proofs.settings.value_in.Given as goal
 
 -- no word so far sets the option

@@ -2,7 +2,7 @@ use Rattle.std.proofs.Common.{◌≡◌, ◌∷◌, ◌∙◌, ◌+◌, arith, d
 use Rattle.std.specs.List.{drop-map}
 use Rattle.std.proofs.lemmas.List.{length-map, take-map}
 use Rattle.qc_command.specs.Command.{command_name, file_count, options_of, texts_of}
-use Rattle.qc_command.specs.Words.{AreFiles, IsSetBy, IsSettingCount, IsWrongFile}
+use Rattle.qc_command.specs.Inner.CommandWords.{AreFiles, IsSetBy, IsSettingCount, IsWrongFile}
 use Rattle.qc_command.proofs.Apart.{apart}
 use Rattle.qc_command.proofs.UsageLemmas.{line_of_words, usage_of_command, usage_of_nothing, usage_of_words}
 use Rattle.qc_command.proofs.words.command_in.Goals as goal

@@ -1,5 +1,5 @@
 use Rattle.std.proofs.Common.{sym, ap}
-use Rattle.qc_constants.specs.Numeral.{is_canonical}
+use Rattle.qc_constants.specs.Inner.DigitRuns.{is_canonical}
 use Rattle.qc_constants.proofs.Numerals.{canonical_decimal, read_some, read_none}
 use Rattle.qc_constants.proofs.numeral.whole_number.Goals as goal
 

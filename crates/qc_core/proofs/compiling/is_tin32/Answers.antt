@@ -9,4 +9,4 @@ returns-in-None c =
 
 pub returns : goal.returns
 returns c =
-    other_tin32 c.known.ensures.tokens c.args.descr.now c.in-Some.shipped _ c.same_description.result refl c.if-same_description.false (rw c.in-Some.is at c.in_ok-shipped.ensures.some) c.same_description.ensures
+    other_tin32 c.lower_laws.ensures.tokens c.args.descr.now c.in-Some.shipped _ c.same_description.result refl c.if-same_description.false (rw c.in-Some.is at c.in_ok-shipped.ensures.some) c.same_description.ensures

@@ -1,6 +1,6 @@
 use Rattle.std.proofs.Common.{◌≡◌, drop}
 use Rattle.qc_descr.specs.Coding.{memory_bytes}
-use Rattle.qc_decode.specs.Decoding.{operand_in_bytes}
+use Rattle.qc_decode.specs.Inner.OperandsOfBytes.{operand_in_bytes}
 use Rattle.qc_decode.proofs.operands.operand_in_bytes.Given as goal
 
 abbrev pub invariant-loop-place : goal.invariant-loop-place

@@ -1,6 +1,6 @@
 use Rattle.std.proofs.Common.{◌∙◌, sym, length}
 use Rattle.qc_descr.specs.CodingFaults.{bits_of_claims}
-use Rattle.qc_descr.specs.Standing.{operand_is_right}
+use Rattle.qc_descr.specs.Inner.Standing.{operand_is_right}
 use Rattle.qc_descr.proofs.Standing.{below_fails}
 use Rattle.qc_descr.proofs.coding_faults.all_stand.Goals as goal
 

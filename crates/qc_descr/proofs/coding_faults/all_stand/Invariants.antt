@@ -1,6 +1,6 @@
 use Rattle.std.proofs.Common.{◌≡◌, true}
 use Rattle.qc_descr.specs.CodingFaults.{bits_of_claims}
-use Rattle.qc_descr.specs.Standing.{operand_is_right}
+use Rattle.qc_descr.specs.Inner.Standing.{operand_is_right}
 use Rattle.qc_descr.specs.Valid.{all_below}
 use Rattle.qc_descr.proofs.coding_faults.all_stand.Given as goal
 

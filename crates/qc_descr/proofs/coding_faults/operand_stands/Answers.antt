@@ -1,6 +1,6 @@
 use Rattle.std.proofs.Common.{◌∙◌, sym}
 use Rattle.qc_descr.specs.CodingFaults.{bits_of_claims}
-use Rattle.qc_descr.specs.Standing.{bit_is_right}
+use Rattle.qc_descr.specs.Inner.Standing.{bit_is_right}
 use Rattle.qc_descr.proofs.Standing.{below_fails}
 use Rattle.qc_descr.proofs.coding_faults.operand_stands.Goals as goal
 

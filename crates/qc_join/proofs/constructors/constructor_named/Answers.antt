@@ -1,6 +1,6 @@
 use Rattle.std.specs.Option.{option_copied}
 use Rattle.std.proofs.Common.{ap, sym, ◌∙◌}
-use Rattle.qc_join.specs.Constructors.{constructor_of, constructor_places}
+use Rattle.qc_join.specs.Inner.Constructors.{constructor_of, constructor_places}
 use Rattle.qc_join.proofs.Places.{copied_get, placed_none, placed_some}
 use Rattle.qc_join.proofs.constructors.constructor_named.Goals as goal
 

@@ -1,6 +1,6 @@
 use Rattle.std.proofs.Common.{subst, take}
-use Rattle.qc_join.specs.Constructors.{constructor_places}
-use Rattle.qc_join.specs.Declarations.{IsTableOf}
+use Rattle.qc_join.specs.Inner.Constructors.{constructor_places}
+use Rattle.qc_names.specs.ValueTables.{IsTableOf}
 use Rattle.qc_join.proofs.Places.{places_more}
 use Rattle.qc_join.proofs.constructors.constructors.Goals as goal
 

@@ -1,6 +1,6 @@
 use Rattle.std.proofs.Common.{take}
-use Rattle.qc_join.specs.Constructors.{constructor_places}
-use Rattle.qc_join.specs.Declarations.{IsTableOf}
+use Rattle.qc_join.specs.Inner.Constructors.{constructor_places}
+use Rattle.qc_names.specs.ValueTables.{IsTableOf}
 use Rattle.qc_join.proofs.constructors.constructors.Given as goal
 
 -- the constructors so far are declared

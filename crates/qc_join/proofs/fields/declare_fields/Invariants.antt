@@ -1,6 +1,6 @@
 use Rattle.std.proofs.Common.{◌++◌, take, List, ℕ}
 use Rattle.qc_join.specs.declared.expanded.FieldPlace.{FieldPlace}
-use Rattle.qc_join.specs.Declarations.{IsTableOf}
+use Rattle.qc_names.specs.ValueTables.{IsTableOf}
 use Rattle.qc_join.specs.Expansion.{places_of}
 use Rattle.qc_join.proofs.fields.declare_fields.Given as goal
 

@@ -1,5 +1,5 @@
 use Rattle.std.proofs.Common.{subst, take}
-use Rattle.qc_join.specs.Declarations.{IsTableOf}
+use Rattle.qc_names.specs.ValueTables.{IsTableOf}
 use Rattle.qc_join.specs.Expansion.{fields_from}
 use Rattle.qc_join.proofs.ItemFields.{items_more}
 use Rattle.qc_join.proofs.fields.fields.Goals as goal

@@ -1,4 +1,4 @@
-use Rattle.qc_join.proofs.NameSets.{entered_more}
+use Rattle.qc_names.specs.Law.Tables.{entered_more}
 use Rattle.qc_join.proofs.name_faults.operation_names.Goals as goal
 
 pub loop-operation-preserved : goal.loop-operation-preserved

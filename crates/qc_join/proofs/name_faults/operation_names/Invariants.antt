@@ -1,5 +1,5 @@
 use Rattle.std.proofs.Common.{take, map}
-use Rattle.qc_join.specs.NameSets.{HasNames}
+use Rattle.qc_names.specs.Tables.{HasNames}
 use Rattle.qc_join.proofs.name_faults.operation_names.Given as goal
 
 -- the names of the operations so far

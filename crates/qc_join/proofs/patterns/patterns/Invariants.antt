@@ -1,5 +1,5 @@
 use Rattle.std.proofs.Common.{take, []}
-use Rattle.qc_join.specs.Declarations.{IsTableOf}
+use Rattle.qc_names.specs.ValueTables.{IsTableOf}
 use Rattle.qc_join.specs.Expansion.{fields_of, patterns_after}
 use Rattle.qc_join.proofs.patterns.patterns.Given as goal
 

@@ -1,5 +1,5 @@
 use Rattle.std.proofs.Common.{◌≡◌, drop, map}
-use Rattle.qc_join.specs.NameSets.{noted_all}
+use Rattle.qc_join.specs.Inner.KeptNames.{noted_all}
 use Rattle.qc_join.proofs.seen.see_fields.Given as goal
 
 -- the rest leaves what all leave

@@ -1,6 +1,7 @@
 use Rattle.std.proofs.Common.{◌≡◌, drop}
 use Rattle.std.specs.List.{flat_map}
-use Rattle.qc_join.specs.NameSets.{names_of, none_seen, noted_all}
+use Rattle.qc_names.specs.Seen.{none_seen}
+use Rattle.qc_join.specs.Inner.KeptNames.{names_of, noted_all}
 use Rattle.qc_join.proofs.seen.seen_in_items.Given as goal
 
 -- the rest leaves what all leave

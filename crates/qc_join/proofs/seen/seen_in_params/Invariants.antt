@@ -1,5 +1,6 @@
 use Rattle.std.proofs.Common.{◌≡◌, drop, map}
-use Rattle.qc_join.specs.NameSets.{none_seen, noted_all}
+use Rattle.qc_names.specs.Seen.{none_seen}
+use Rattle.qc_join.specs.Inner.KeptNames.{noted_all}
 use Rattle.qc_join.proofs.seen.seen_in_params.Given as goal
 
 -- the rest leaves what all leave

@@ -1,6 +1,6 @@
 use Rattle.std.specs.Prelude.{[]}
 use Rattle.std.proofs.Common.{subst}
-use Rattle.qc_join.specs.Declarations.{IsTableOf}
+use Rattle.qc_names.specs.ValueTables.{IsTableOf}
 use Rattle.qc_join.specs.Joining.{named_operands}
 use Rattle.qc_join.proofs.sketches.operands.Goals as goal
 

@@ -1,4 +1,4 @@
-use Rattle.qc_names.proofs.Tables.{index-none, index-entered, index-there}
+use Rattle.qc_names.specs.Law.Tables.{index-none, index-entered, index-there}
 use Rattle.qc_names.proofs.laws.entered_names_have_their_places.Goals as goal
 
 pub returns-clause-none : goal.returns-clause-none

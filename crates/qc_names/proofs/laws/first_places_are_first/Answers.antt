@@ -1,4 +1,4 @@
-use Rattle.qc_names.proofs.Tables.{index-any, index-within, index-is, index-first}
+use Rattle.qc_names.specs.Law.Tables.{index-any, index-within, index-is, index-first}
 use Rattle.qc_names.proofs.laws.first_places_are_first.Goals as goal
 
 pub returns-clause-found : goal.returns-clause-found

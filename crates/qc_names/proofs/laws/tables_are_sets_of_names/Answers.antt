@@ -1,4 +1,4 @@
-use Rattle.qc_names.proofs.Tables.{names-any, entered-any, names-entered}
+use Rattle.qc_names.specs.Law.Tables.{names-any, entered-any, names-entered}
 use Rattle.qc_names.proofs.laws.tables_are_sets_of_names.Goals as goal
 
 pub returns-clause-names : goal.returns-clause-names

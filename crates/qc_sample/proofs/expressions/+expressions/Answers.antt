@@ -1,8 +1,8 @@
 use Rattle.std.proofs.Common.{refl, ap, sym, ◌∙◌, arith, [], ◌∷◌, ◌++◌}
-use Rattle.qc_text.specs.Grammar.{nonterminal, repetition}
-use Rattle.qc_text.specs.Gives.{gives_alike}
-use Rattle.qc_text.specs.Reading.{reads}
-use Rattle.qc_text.specs.Law.Loops.{after_items, after_first, loop_goes_on, loop_ends, loop_error, loop_shortens}
+use Rattle.qc_grammar.specs.Grammar.{nonterminal, repetition}
+use Rattle.qc_grammar.specs.Law.Loops.{gives_alike}
+use Rattle.qc_grammar.specs.Reading.{reads}
+use Rattle.qc_grammar.specs.Law.Loops.{after_items, after_first, loop_goes_on, loop_ends, loop_error, loop_shortens}
 use Rattle.qc_sample.specs.Sample.{sample, sample_is_readable, any_expr, expr, expr_unrolls, exprs, next_expr}
 use Rattle.qc_sample.proofs.expressions.+expressions.Goals as goal
 

@@ -1,7 +1,7 @@
 use Rattle.std.proofs.Common.{◌≡◌, ◌+◌, ◌*◌, ◌≤◌, length}
-use Rattle.qc_text.specs.Grammar.{repetition}
-use Rattle.qc_text.specs.Reading.{reads}
-use Rattle.qc_text.specs.Law.Loops.{after_items}
+use Rattle.qc_grammar.specs.Grammar.{repetition}
+use Rattle.qc_grammar.specs.Reading.{reads}
+use Rattle.qc_grammar.specs.Law.Loops.{after_items}
 use Rattle.qc_sample.specs.Sample.{sample, next_expr, exprs}
 use Rattle.qc_sample.proofs.expressions.+expressions.Given as goal
 

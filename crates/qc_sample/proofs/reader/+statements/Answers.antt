@@ -1,8 +1,8 @@
 use Rattle.std.proofs.Common.{refl, ap, sym, ◌∙◌, arith}
-use Rattle.qc_text.specs.Grammar.{nonterminal}
-use Rattle.qc_text.specs.Gives.{gives_alike}
-use Rattle.qc_text.specs.Reading.{reads}
-use Rattle.qc_text.specs.Law.Loops.{after_items, after_none, loop_goes_on, loop_ends, loop_error, loop_shortens}
+use Rattle.qc_grammar.specs.Grammar.{nonterminal}
+use Rattle.qc_grammar.specs.Law.Loops.{gives_alike}
+use Rattle.qc_grammar.specs.Reading.{reads}
+use Rattle.qc_grammar.specs.Law.Loops.{after_items, after_none, loop_goes_on, loop_ends, loop_error, loop_shortens}
 use Rattle.qc_sample.specs.Sample.{sample, sample_is_readable, any_statement, statement, statement_unrolls, statements}
 use Rattle.qc_sample.proofs.reader.+statements.Goals as goal
 

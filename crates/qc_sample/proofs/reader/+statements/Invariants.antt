@@ -1,6 +1,6 @@
 use Rattle.std.proofs.Common.{◌≡◌, ◌+◌, ◌*◌, ◌≤◌, length}
-use Rattle.qc_text.specs.Reading.{reads}
-use Rattle.qc_text.specs.Law.Loops.{after_items}
+use Rattle.qc_grammar.specs.Reading.{reads}
+use Rattle.qc_grammar.specs.Law.Loops.{after_items}
 use Rattle.qc_sample.specs.Sample.{sample, statements}
 use Rattle.qc_sample.proofs.reader.+statements.Given as goal
 

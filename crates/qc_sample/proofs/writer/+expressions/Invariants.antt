@@ -1,11 +1,12 @@
-use Rattle.std.proofs.Common.{◌≡◌, ◌++◌, drop}
+use Rattle.std.proofs.Common.{◌≡◌, ◌++◌, drop, codes}
 use Rattle.std.specs.List.{flat_map}
-use Rattle.qc_sample.specs.Printed.{comma_words}
-use Rattle.qc_text.specs.Spaced.{spaced}
+use Rattle.qc_grammar.specs.Printing.{next_words}
+use Rattle.qc_sample.specs.Printed.{expr_words}
+use Rattle.qc_text.specs.PrintedWords.{spaced}
 use Rattle.qc_sample.proofs.writer.+expressions.Given as goal
 
 -- what is written, and what the rest spells
 abbrev pub invariant-write_more-loop-place : goal.invariant-write_more-loop-place
 invariant-write_more-loop-place l =
-    l.out.items ++ spaced (flat_map comma_words (drop l.place l.exprs))
-    ≡ l.fn.out.items ++ spaced (flat_map comma_words (drop 1 l.exprs))
+    l.out.items ++ spaced (flat_map (next_words (codes ",") expr_words) (drop l.place l.exprs))
+    ≡ l.fn.out.items ++ spaced (flat_map (next_words (codes ",") expr_words) (drop 1 l.exprs))

@@ -1,7 +1,7 @@
 use Rattle.std.proofs.Common.{◌≡◌, ◌++◌, drop}
 use Rattle.std.specs.List.{flat_map}
 use Rattle.qc_sample.specs.Printed.{statement_words}
-use Rattle.qc_text.specs.Spaced.{spaced}
+use Rattle.qc_text.specs.PrintedWords.{spaced}
 use Rattle.qc_sample.proofs.writer.+statements.Given as goal
 
 -- what is written, and what the rest spells

@@ -1,8 +1,8 @@
 use Rattle.std.proofs.Common.{ap, sym, ◌∙◌, arith}
-use Rattle.qc_text.specs.Grammar.{repetition}
-use Rattle.qc_text.specs.Gives.{gives_alike}
-use Rattle.qc_text.specs.Reading.{reads}
-use Rattle.qc_text.specs.Law.Loops.{after_items, after_first, loop_goes_on, loop_ends, loop_error, loop_shortens}
+use Rattle.qc_grammar.specs.Grammar.{repetition}
+use Rattle.qc_grammar.specs.Law.Loops.{gives_alike}
+use Rattle.qc_grammar.specs.Reading.{reads}
+use Rattle.qc_grammar.specs.Law.Loops.{after_items, after_first, loop_goes_on, loop_ends, loop_error, loop_shortens}
 use Rattle.qc_sled.specs.Sled.{sled, sled_is_readable, pattern, pattern_unrolls, sequence, next_sequence, next_sequence_repeats, sequences, conjunction, next_conjunction, next_conjunction_repeats, conjunctions, atom, next_atom, next_atom_repeats, atoms}
 use Rattle.qc_sled.proofs.patterns.+patterns.Goals as goal
 

@@ -1,14 +1,18 @@
-use Rattle.qc_text.specs.ReadAgain.{read_again, words_alone}
-use Rattle.qc_text.specs.Printing.{as_text}
-use Rattle.qc_sled.specs.Sled.{sled, coding, reserved}
+use Rattle.qc_grammar.specs.Law.ReadAgain.{file_tree, read_again, reserving_respelled, words_alone}
+use Rattle.qc_grammar.specs.Printing.{as_text}
+use Rattle.qc_sled.specs.Sled.{sled, coding, reserved, vocabulary}
 use Rattle.qc_sled.specs.Printed.{coding_words, coding_texts}
 use Rattle.qc_sled.proofs.writer.write_sled.Goals as goal
 
 pub returns-clause-words : goal.returns-clause-words
-returns-clause-words c = words_alone sled coding reserved as_text coding_words coding_texts c.args.raw.now
+returns-clause-words c = words_alone sled coding vocabulary as_text coding_words coding_texts c.args.raw.now
     c.new-out.result.items c.write_coding.new.out.items c.new-out.ensures.items c.in_ok-write_coding.ensures
 
 pub returns-clause-again : goal.returns-clause-again
-returns-clause-again c = λ bytes text. read_again sled coding reserved as_text c.printed_tokens_are_tokens.ensures
-    c.words_are_tokens.ensures c.texts_of_their_kinds.ensures c.one_end.ensures bytes c.args.raw.now text
+returns-clause-again c = λ is. read_again sled coding vocabulary as_text c.printed_tokens_are_tokens.ensures
+    (reserving_respelled reserved as_text c.printed_tokens_are_tokens.ensures) c.words_are_tokens.ensures c.args.raw.now is
     c.write_coding.new.out.items (returns-clause-words c)
+
+pub returns-clause-file_again : goal.returns-clause-file_again
+returns-clause-file_again c = λ bytes text. returns-clause-again c
+    (file_tree sled coding vocabulary as_text c.texts_of_their_kinds.ensures c.one_end.ensures bytes c.args.raw.now text)

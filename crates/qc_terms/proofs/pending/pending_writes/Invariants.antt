@@ -2,7 +2,7 @@ use Rattle.std.proofs.Common.{◌≡◌, ◌≤◌, ◌++◌, All, drop, length}
 use Rattle.std.specs.Option.{option_map}
 use Rattle.arrayvec.specs.ArrayVec.{array_vec_len}
 use Rattle.qc_terms.specs.Effects.{writes_of}
-use Rattle.qc_terms.specs.Pending.{IsPendingWrite, writes_of_all}
+use Rattle.qc_terms.specs.Inner.Pending.{IsPendingWrite, writes_of_all}
 use Rattle.qc_terms.specs.State.{context_of}
 use Rattle.qc_terms.proofs.pending.pending_writes.Given as goal
 

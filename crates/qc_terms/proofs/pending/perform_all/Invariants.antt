@@ -1,6 +1,6 @@
 use Rattle.std.proofs.Common.{◌≡◌, drop, length}
 use Rattle.qc_terms.specs.Effects.{after_writes}
-use Rattle.qc_terms.specs.Pending.{writes_of_all}
+use Rattle.qc_terms.specs.Inner.Pending.{writes_of_all}
 use Rattle.qc_terms.specs.State.{IsState, context_of}
 use Rattle.qc_terms.proofs.pending.perform_all.Given as goal
 

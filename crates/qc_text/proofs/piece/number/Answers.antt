@@ -1,5 +1,5 @@
 use Rattle.std.proofs.Common.{◌≢◌, ◌∙◌, sym, arith}
-use Rattle.qc_text.specs.Scanning.{hexadecimal_run}
+use Rattle.qc_text.specs.Inner.Scanning.{hexadecimal_run}
 use Rattle.qc_text.proofs.Fronts.{front_decimal, front_hexadecimal}
 use Rattle.qc_text.proofs.piece.number.Goals as goal
 

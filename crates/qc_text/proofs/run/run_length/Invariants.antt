@@ -1,6 +1,6 @@
 use Rattle.std.proofs.Common.{◌≡◌, ◌+◌, drop}
 use Rattle.std.specs.List.{prefix_len}
-use Rattle.qc_text.specs.Scanning.{is_in}
+use Rattle.qc_text.specs.Inner.Scanning.{is_in}
 use Rattle.qc_text.proofs.run.run_length.Given as goal
 
 -- the bytes so far are of the class

@@ -1,8 +1,8 @@
 use Rattle.std.proofs.Common.{ap, sym, ◌∙◌, ◌≡◌, ◌<◌, ◌++◌, ◌∷◌, [], arith, None}
 use Rattle.qc_terms.specs.declared.term.Dest.TheVariants as dest
 use Rattle.qc_widths.specs.Effects.{act_on_memory}
-use Rattle.qc_widths.specs.Evaluated.{nodes_in}
-use Rattle.qc_widths.specs.Faults.{told}
+use Rattle.qc_widths.specs.Inner.KeptValues.{nodes_in}
+use Rattle.qc_widths.specs.Faults.{reported}
 use Rattle.qc_widths.specs.Numbers.{access_width}
 use Rattle.qc_widths.specs.Values as values
 use Rattle.qc_widths.proofs.Gathered.{acts_known, acts_large, part_clash, word_clash, word_nodes}
@@ -19,8 +19,8 @@ returns-in-Huge-value c = λ one two is also.
     let h : 4096 < nodes_in two = huge_of two (sym c.in-Huge-value.is ∙ also) in
     sym (acts_large _ (omega (arith, word_nodes c.args.facts.now.word c.args.bits.now one two)))
 
-pub returns-then-nodes-gt-LIMIT : goal.returns-then-nodes-gt-LIMIT
-returns-then-nodes-gt-LIMIT c = λ one two is also.
+pub returns-then-nodes-gt-MOST_NODES : goal.returns-then-nodes-gt-MOST_NODES
+returns-then-nodes-gt-MOST_NODES c = λ one two is also.
     let p = parts_of _ _ _ _ _ _ one (sym c.in-Known.is ∙ is) in
     let q = parts_of _ _ _ _ _ _ two (sym c.in-Known-value.is ∙ also) in
     let n : c.in-Known.nodes ≡ nodes_in one = p.nodes in
@@ -43,9 +43,9 @@ returns-in_ok-push-in-Known-value c = λ one two is also.
     ∙ ap (λ t. record { guard = None; to = dest.Mem b one.term; value = t } ∷ []) q.term
     ∙ ap (λ x. record { guard = None; to = dest.Mem x one.term; value = two.term } ∷ []) width)
     (omega (arith, p.nodes, q.nodes, p.small, q.small, c.saturating_add-nodes.ensures, word_nodes word bits one two))
-    (omega (arith, c.if-nodes-gt-LIMIT.false))
+    (omega (arith, c.if-nodes-gt-MOST_NODES.false))
     (word_clash word bits one two _ _ _
-    (part_clash one word _ _ _ _ _ _ _ _ p (c.mismatch.ensures ∙ ap (λ w. told (values.mismatch c.in-Known.start c.in-Known.width w)) c.word.ensures) c.earlier-first.ensures)
+    (part_clash one word _ _ _ _ _ _ _ _ p (c.mismatch.ensures ∙ ap (λ w. reported (values.mismatch c.in-Known.start c.in-Known.width w)) c.word.ensures) c.earlier-first.ensures)
     (part_clash two (access_width word bits) _ _ _ _ _ _ _ _ q (c.mismatch-in-Known-value.ensures
-    ∙ ap (λ w. told (values.mismatch c.in-Known-value.token c.in-Known-value.found w)) (c.access_width.ensures ∙ ap (λ w. access_width w bits) c.word-in-Known-value.ensures))
+    ∙ ap (λ w. reported (values.mismatch c.in-Known-value.token c.in-Known-value.found w)) (c.access_width.ensures ∙ ap (λ w. access_width w bits) c.word-in-Known-value.ensures))
     c.earlier-second.ensures) c.earlier.ensures)

@@ -1,5 +1,5 @@
 use Rattle.std.proofs.Common.{◌≡◌, ◌++◌, drop, map}
-use Rattle.qc_widths.specs.Kept.{under}
+use Rattle.qc_widths.specs.Inner.KeptEffects.{under}
 use Rattle.qc_widths.proofs.acts.guarded_copies.Given as goal
 
 -- those so far, and the rest

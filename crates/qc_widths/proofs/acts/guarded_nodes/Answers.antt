@@ -1,7 +1,7 @@
 use Rattle.std.proofs.Common.{ap, sym, ◌∙◌, ◌≡◌, ◌+◌, ◌∷◌, [], arith, min, drop, suc}
 use Rattle.std.proofs.Math.Seq.{drop-cons}
 use Rattle.std.proofs.lemmas.Grind.{common_steps}
-use Rattle.qc_widths.specs.Kept.{more_under, nodes_under}
+use Rattle.qc_widths.specs.Inner.KeptEffects.{more_under, nodes_under}
 use Rattle.qc_widths.proofs.Gathered.{capped}
 use Rattle.qc_widths.proofs.acts.guarded_nodes.Goals as goal
 

@@ -1,5 +1,5 @@
 use Rattle.std.proofs.Common.{◌≡◌, ◌≤◌, drop, min}
-use Rattle.qc_widths.specs.Kept.{nodes_under}
+use Rattle.qc_widths.specs.Inner.KeptEffects.{nodes_under}
 use Rattle.qc_widths.proofs.acts.guarded_nodes.Given as goal
 
 -- the total so far, and the rest

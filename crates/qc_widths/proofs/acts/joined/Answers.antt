@@ -1,7 +1,7 @@
 use Rattle.std.proofs.Common.{ap, sym, ◌∙◌, ◌≡◌, ◌<◌, ◌++◌, arith, map}
 use Rattle.qc_widths.specs.Effects.{clashes_of_act, effect_of}
-use Rattle.qc_widths.specs.Faults.{told, told_of_both}
-use Rattle.qc_widths.specs.Kept.{nodes_in_acts}
+use Rattle.qc_widths.specs.Faults.{reported, reported_of_both}
+use Rattle.qc_widths.specs.Inner.KeptEffects.{nodes_in_acts}
 use Rattle.qc_widths.proofs.Gathered.{acts_known, acts_large, acts_parts, acts_huge, clash_append, nodes_append}
 use Rattle.std.proofs.lemmas.List.{map-append}
 use Rattle.std.specs.List.{flat_map}
@@ -17,8 +17,8 @@ returns-in-Huge-second c = λ one two is also.
     let h : 4096 < nodes_in_acts two = acts_huge two (sym c.in-Huge-second.is ∙ also) in
     sym (acts_large (one ++ two) (omega (arith, nodes_append one two)))
 
-pub returns-then-nodes-gt-LIMIT : goal.returns-then-nodes-gt-LIMIT
-returns-then-nodes-gt-LIMIT c = λ one two is also.
+pub returns-then-nodes-gt-MOST_NODES : goal.returns-then-nodes-gt-MOST_NODES
+returns-then-nodes-gt-MOST_NODES c = λ one two is also.
     let p = acts_parts _ _ _ one (sym c.in-Known.is ∙ is) in
     let q = acts_parts _ _ _ two (sym c.in-Known-second.is ∙ also) in
     let n : c.in-Known.nodes ≡ nodes_in_acts one = p.nodes in
@@ -33,6 +33,6 @@ returns-in_ok-append-in-Known-second c = λ one two is also.
     (c.in_ok-append-in-Known-second.ensures ∙ ap (λ l. l ++ c.in-Known-second.more) p.effects ∙ ap (λ l. map effect_of one ++ l) q.effects
     ∙ sym (map-append effect_of one two))
     (omega (arith, p.nodes, q.nodes, p.small, q.small, c.saturating_add-nodes.ensures, nodes_append one two))
-    (omega (arith, c.if-nodes-gt-LIMIT.false))
-    (c.earlier-clash.ensures ∙ ap (λ x. told_of_both x c.in-Known-second.later) p.clash
-    ∙ ap (λ x. told_of_both (told (flat_map clashes_of_act one)) x) q.clash ∙ sym (clash_append one two))
+    (omega (arith, c.if-nodes-gt-MOST_NODES.false))
+    (c.earlier-clash.ensures ∙ ap (λ x. reported_of_both x c.in-Known-second.later) p.clash
+    ∙ ap (λ x. reported_of_both (reported (flat_map clashes_of_act one)) x) q.clash ∙ sym (clash_append one two))

@@ -2,13 +2,13 @@ use Rattle.std.proofs.Common.{◌≡◌, ◌++◌, List, map, drop, sym, ap, ◌
 use Rattle.std.specs.List.{flat_map}
 use Rattle.qc_widths.specs.declared.faults.WidthFault.{WidthFault}
 use Rattle.qc_widths.specs.declared.faults.WidthFault.TheVariants.{TwiceNamed}
-use Rattle.qc_widths.specs.Faults.{told, told_of_both}
+use Rattle.qc_widths.specs.Faults.{reported, reported_of_both, token_of, rank_of}
 use Rattle.qc_widths.specs.Scopes.{Names}
 use Rattle.qc_widths.specs.Effects.{effect_faults, effect_events}
 use Rattle.qc_widths.specs.Declarations.{names_for, locals_of_operands}
-use Rattle.qc_widths.specs.Elaboration.{all_signatures, names_of_operands}
-use Rattle.qc_widths.specs.NamesAt.{names_at}
-use Rattle.qc_widths.proofs.Told.{told-append}
+use Rattle.qc_widths.specs.Inner.Elaboration.{all_signatures, names_of_operands}
+use Rattle.qc_widths.specs.Inner.KeptNames.{names_at}
+use Rattle.qc_names.specs.Law.Reported.{reported-append}
 use Rattle.qc_widths.proofs.Earlier.{all_of_them}
 use Rattle.qc_widths.proofs.bodies.instruction_fault.Goals as goal
 
@@ -25,7 +25,7 @@ returns c =
     ∙ ap (λ functions. names_for t.facts.now functions (locals_of_operands c.args.operands.now))
     (all_of_them (all_signatures t) t.signatures.now c.requires.signatures) in
     c.earlier.ensures
-    ∙ ap (λ f. told_of_both f c.twice_fault.result) c.body_fault.ensures
-    ∙ ap (told_of_both (told (faults names))) c.twice_fault.ensures
-    ∙ sym (told-append (faults names) (second names))
-    ∙ ap (λ n. told (faults n ++ second n)) is
+    ∙ ap (λ f. reported_of_both f c.twice_fault.result) c.body_fault.ensures
+    ∙ ap (reported_of_both (reported (faults names))) c.twice_fault.ensures
+    ∙ sym (reported-append token_of rank_of (faults names) (second names))
+    ∙ ap (λ n. reported (faults n ++ second n)) is

@@ -1,12 +1,13 @@
 use Rattle.std.specs.Prelude.{◌≡◌, List, map}
 use Rattle.std.specs.List.{flat_map, list_all}
 use Rattle.std.proofs.Common.{refl, ap, ◌∙◌}
+use Rattle.qc_widths.specs.GivenFacts.{given_in}
 use Rattle.qc_lrtl.specs.declared.syntax.Item.{Item}
 use Rattle.qc_widths.specs.declared.machine.Machine.{Machine}
 use Rattle.qc_widths.specs.Declarations.{facts_in, meanings_in}
-use Rattle.qc_widths.specs.Machine.{given_in, space_of, operation_of_item}
-use Rattle.qc_widths.specs.Elaboration.{operations_in}
-use Rattle.qc_widths.specs.Given.{has_small_cells, is_small_space}
+use Rattle.qc_widths.specs.Machine.{space_of, operation_of_item}
+use Rattle.qc_widths.specs.Inner.Elaboration.{operations_in}
+use Rattle.qc_widths.specs.Inner.Given.{has_small_cells, is_small_space}
 use Rattle.qc_widths.proofs.NoFault.{no-fault, cells-fit, spaces-fit}
 use Rattle.qc_widths.proofs.elaboration.machine.Goals as goal
 

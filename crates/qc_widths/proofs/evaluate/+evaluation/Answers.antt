@@ -1,24 +1,24 @@
 use Rattle.std.proofs.Common.{ap, sym, subst, refl, true, false, [], ◌∷◌, ◌++◌, length-append, ◌∙◌, ◌≡◌, ◌+◌, ◌<◌, ℕ, arith, length, map, IfOk, List, None, Some, slice_get, take}
-use Rattle.qc_widths.specs.Evaluated.{IsValue, seen}
+use Rattle.qc_widths.specs.Inner.KeptValues.{IsValue, seen}
 use Rattle.qc_widths.specs.Expressions.{Expression, expression_of, value_of, expression-literal, expression-input, expression-after, expression-mem, expression-zx, expression-sx, expression-slice, expression-name, expression-call, expression-cell}
 use Rattle.qc_lrtl.specs.declared.syntax.Expr.{Expr, size-Expr}
 use Rattle.qc_widths.specs.Declarations.{arity_of, bound_params, function_items, place_of_function, scope_for, meanings_in, meaning_of_function}
 use Rattle.qc_widths.specs.declared.scope.Bound.{Bound}
 use Rattle.qc_widths.specs.declared.scope.Bound.TheVariants.{Argument}
 use Rattle.qc_lrtl.specs.declared.syntax.Param.{Param}
-use Rattle.qc_widths.specs.Evaluated.{AreBelow, AreBound, IsBelow, IsBound, IsBoundBelow, IsFoundBelow, IsFunction, IsPlain, apply_of, apply_of_meaning, binding, meanings_of}
+use Rattle.qc_widths.specs.Inner.KeptValues.{AreBelow, AreBound, IsBelow, IsBound, IsBoundBelow, IsFoundBelow, IsFunction, IsPlain, apply_of, apply_of_meaning, binding, meanings_of}
 use Rattle.qc_widths.specs.declared.scope.Callee.{Callee}
 use Rattle.qc_widths.specs.declared.scope.Callee.TheVariants.{Declared}
 use Rattle.qc_widths.specs.declared.scope.Found.{Found}
 use Rattle.std.specs.Option.{option_map}
 use Rattle.std.proofs.lemmas.List.{length-map}
 use Rattle.qc_widths.specs.Expressions.{bare_name, function_of, value_of_cell, use_of, use_of_meaning, bindings}
-use Rattle.qc_widths.specs.Potential.{depth_of, depths_of}
+use Rattle.qc_widths.specs.Inner.Measure.{depth_of, depths_of}
 use Rattle.qc_widths.specs.Scopes.{Facts, Meaning, bound_in, is_plain, cell_named, function, operator_named, meaning_in, named, argument}
 use Rattle.qc_words.specs.Operators.{is_unary}
 use Rattle.qc_widths.specs.declared.value.Value.TheVariants.{Huge}
 use Rattle.qc_widths.specs.Values as values
-use Rattle.qc_widths.proofs.Declared.{function_means, late_meaning, meaning_at, meaning_name, no_function_means, no_meaning}
+use Rattle.qc_widths.proofs.Declared.{function_means, no_function_at, no_function_means}
 use Rattle.qc_widths.proofs.Falling.{falls_below, falls_inside, shallower}
 use Rattle.qc_widths.proofs.Using.{huge_first, got_some, some_of, use_applied, use_operator, use_function, use_faulty, effects_take_none, other_takes_none, plain_no_effects, plain_count, bindings_length, bindings_at, map_at, bound_push, below_push}
 use Rattle.qc_widths.proofs.evaluate.+evaluation.Goals as goal
@@ -206,70 +206,50 @@ evaluate_bindings-returns-clause-bound t c = λ spec is.
     let P : ℕ → Type 0 = λ n. AreBound (meanings_of c.args.scope.now) n c.loop-place.bounds (bindings spec (map arity_of c.args.params.now) (map expression_of c.args.args.now)) in
     subst P all (c.loop-place.invariant.bound spec is)
 
-pub evaluate_declared-returns-then-number-scope : goal.evaluate_declared-returns-then-number-scope
-evaluate_declared-returns-then-number-scope t c = λ spec is.
-    let items = c.args.scope.now.items.now in
-    let facts = c.args.scope.now.facts.now in
-    let level = c.args.scope.now.level in
-    let name = c.args.name.now.text in
-    let token = c.args.name.now.token in
-    let args = c.args.args.now in
-    let place : place_of_function items name ≡ Some c.in-Some.number = ap (λ n. place_of_function items n) (sym c.as_slice.ensures) ∙ sym c.find.ensures ∙ c.in-Some.is in
-    let none : meaning_in spec name ≡ None = ap (λ l. named meaning_name l name) is.functions ∙ late_meaning facts items level c.in-Some.number name place c.if-number-scope.true in
-    c.faulty.ensures ∙ ap (λ m. seen (use_of_meaning spec m token (map expression_of args))) (sym none)
-
 pub evaluate_declared-returns-then-len-args : goal.evaluate_declared-returns-then-len-args
 evaluate_declared-returns-then-len-args t c = λ spec is.
     let items = c.args.scope.now.items.now in
     let facts = c.args.scope.now.facts.now in
-    let level = c.args.scope.now.level in
     let name = c.args.name.now.text in
     let token = c.args.name.now.token in
     let args = c.args.args.now in
-    let place : place_of_function items name ≡ Some c.in-Some.number = ap (λ n. place_of_function items n) (sym c.as_slice.ensures) ∙ sym c.find.ensures ∙ c.in-Some.is in
     let number = c.in-Some.number in
-    let r = meaning_at facts items level number name place (omega (arith, c.if-number-scope.false)) in
-    let known : meaning_in spec name ≡ Some r.meaning = ap (λ l. named meaning_name l name) is.functions ∙ r.named in
     let m : Meaning = meaning_of_function facts (take number (meanings_in facts items)) c.in-Function.name c.in-Function.params c.in-Function.body in
-    let gets : slice_get (meanings_in facts items) number ≡ Some m = function_means facts items number c.item.result.now c.in-Function.token c.in-Function.name c.in-Function.params c.in-Function.body c.item.ensures c.in-Function.is in
-    let known' : meaning_in spec name ≡ Some m = known ∙ sym r.gets ∙ gets in
-    c.faulty-then-len-args.ensures ∙ ap seen (sym (use_faulty spec (meaning_in spec name) m token args known'
+    let gets : slice_get (meanings_in facts items) number ≡ Some m = function_means facts items number c.in-Some.item.now c.in-Function.token c.in-Function.name c.in-Function.params c.in-Function.body c.in-Some.ensures.found.is c.in-Function.is in
+    let known : meaning_in spec name ≡ Some m = c.in-Some.ensures.means spec is ∙ gets in
+    c.faulty.ensures ∙ ap seen (sym (use_faulty spec (meaning_in spec name) m token args known
     (other_takes_none facts (take number (meanings_in facts items)) c.in-Function.name c.in-Function.params c.in-Function.body args (λ e. absurd (omega (arith, e, c.if-len-args.true, c.len.ensures))))))
 
 pub evaluate_declared-returns-in_ok-bounds-in-Function : goal.evaluate_declared-returns-in_ok-bounds-in-Function
 evaluate_declared-returns-in_ok-bounds-in-Function t c = λ spec is.
     let items = c.args.scope.now.items.now in
     let facts = c.args.scope.now.facts.now in
-    let level = c.args.scope.now.level in
     let name = c.args.name.now.text in
     let token = c.args.name.now.token in
     let args = c.args.args.now in
-    let place : place_of_function items name ≡ Some c.in-Some.number = ap (λ n. place_of_function items n) (sym c.as_slice.ensures) ∙ sym c.find.ensures ∙ c.in-Some.is in
     let number = c.in-Some.number in
-    let r = meaning_at facts items level number name place (omega (arith, c.if-number-scope.false)) in
-    let known : meaning_in spec name ≡ Some r.meaning = ap (λ l. named meaning_name l name) is.functions ∙ r.named in
     let m : Meaning = meaning_of_function facts (take number (meanings_in facts items)) c.in-Function.name c.in-Function.params c.in-Function.body in
-    let gets : slice_get (meanings_in facts items) number ≡ Some m = function_means facts items number c.item.result.now c.in-Function.token c.in-Function.name c.in-Function.params c.in-Function.body c.item.ensures c.in-Function.is in
-    let known' : meaning_in spec name ≡ Some m = known ∙ sym r.gets ∙ gets in
+    let gets : slice_get (meanings_in facts items) number ≡ Some m = function_means facts items number c.in-Some.item.now c.in-Function.token c.in-Function.name c.in-Function.params c.in-Function.body c.in-Some.ensures.found.is c.in-Function.is in
+    let known : meaning_in spec name ≡ Some m = c.in-Some.ensures.means spec is ∙ gets in
     let params = c.in-Function.params in
     let fits : length params ≡ length args = omega (arith, c.if-len-args.false, c.len.ensures) in
     let bounds = bindings spec (map arity_of params) (map expression_of args) in
-    let used = use_function spec facts (take number (meanings_in facts items)) (meaning_in spec name) c.in-Function.name params c.in-Function.body token args known' fits in
+    let used = use_function spec facts (take number (meanings_in facts items)) (meaning_in spec name) c.in-Function.name params c.in-Function.body token args known fits in
     let P : values.Value → Type 0 = λ x. IfOk c.evaluate.result (λ v. IsValue v x) in
     subst P (sym used) (c.evaluate.ensures (scope_for facts (take number (meanings_in facts items)) (bound_params params bounds)) (record {
       facts = refl;
       functions = refl;
       locals = record {
         bounds = bounds;
-        is = ap (λ l. bound_params l bounds) (sym c.as_slice-in-Function-2.ensures);
+        is = ap (λ l. bound_params l bounds) (sym c.as_slice-in-Function.ensures);
         count = bindings_length spec (map arity_of params) (map expression_of args) (length-map params arity_of ∙ fits ∙ sym (length-map args expression_of))
-            ∙ length-map params arity_of ∙ sym (ap length c.as_slice-in-Function-2.ensures);
-        bound = let Q : ℕ → Type 0 = λ n. AreBound (meanings_in facts items) n c.as_slice-in-Function-3.result.now bounds in
+            ∙ length-map params arity_of ∙ sym (ap length c.as_slice-in-Function.ensures);
+        bound = let Q : ℕ → Type 0 = λ n. AreBound (meanings_in facts items) n c.as_slice-in-Function-2.result.now bounds in
             let R : List Bound → Type 0 = λ l. AreBound (meanings_in facts items) (length args) l bounds in
-            subst Q (sym fits ∙ sym (ap length c.as_slice-in-Function-2.ensures))
-            (subst R (sym c.as_slice-in-Function-3.ensures)
+            subst Q (sym fits ∙ sym (ap length c.as_slice-in-Function.ensures))
+            (subst R (sym c.as_slice-in-Function-2.ensures)
             (let S : List Param → Type 0 = λ p. AreBound (meanings_in facts items) (length args) c.in_ok-bounds-in-Function.bounds (bindings spec (map arity_of p) (map expression_of args)) in
-            subst S c.as_slice-in-Function.ensures (c.in_ok-bounds-in-Function.ensures.bound spec is)));
+            subst S c.as_slice.ensures (c.in_ok-bounds-in-Function.ensures.bound spec is)));
       };
     }))
 
@@ -277,28 +257,22 @@ pub evaluate_declared-returns-in_default : goal.evaluate_declared-returns-in_def
 evaluate_declared-returns-in_default t c = λ spec is.
     let items = c.args.scope.now.items.now in
     let facts = c.args.scope.now.facts.now in
-    let level = c.args.scope.now.level in
     let name = c.args.name.now.text in
     let token = c.args.name.now.token in
     let args = c.args.args.now in
-    let place : place_of_function items name ≡ Some c.in-Some.number = ap (λ n. place_of_function items n) (sym c.as_slice.ensures) ∙ sym c.find.ensures ∙ c.in-Some.is in
     let number = c.in-Some.number in
-    let r = meaning_at facts items level number name place (omega (arith, c.if-number-scope.false)) in
-    let known : meaning_in spec name ≡ Some r.meaning = ap (λ l. named meaning_name l name) is.functions ∙ r.named in
-    let effects : r.meaning.signature.effects ≡ true = no_function_means facts items number c.item.result.now r.meaning c.item.ensures c.in_default.not-Function r.gets in
-    c.faulty-in_default.ensures ∙ ap seen (sym (use_faulty spec (meaning_in spec name) r.meaning token args known
-    (effects_take_none r.meaning (length (map expression_of args)) effects)))
+    let r = no_function_at facts items number c.in-Some.item.now c.in-Some.ensures.found.is c.in_default.not-Function in
+    c.faulty-in_default.ensures ∙ ap seen (sym (use_faulty spec (meaning_in spec name) r.0 token args (c.in-Some.ensures.means spec is ∙ r.1)
+    (effects_take_none r.0 (length (map expression_of args)) r.2)))
 
 pub evaluate_declared-returns-in-None : goal.evaluate_declared-returns-in-None
 evaluate_declared-returns-in-None t c = λ spec is.
     let items = c.args.scope.now.items.now in
     let facts = c.args.scope.now.facts.now in
-    let level = c.args.scope.now.level in
     let name = c.args.name.now.text in
     let token = c.args.name.now.token in
     let args = c.args.args.now in
-    let place : place_of_function items name ≡ None = ap (λ n. place_of_function items n) (sym c.as_slice.ensures) ∙ sym c.find.ensures ∙ c.in-None.is in
-    let none : meaning_in spec name ≡ None = ap (λ l. named meaning_name l name) is.functions ∙ no_meaning facts items level name place in
+    let none : meaning_in spec name ≡ None = c.in-None.ensures.means spec is in
     c.faulty-in-None.ensures ∙ ap (λ m. seen (use_of_meaning spec m token (map expression_of args))) (sym none)
 
 pub evaluate_declared-evaluate-requires : goal.evaluate_declared-evaluate-requires
@@ -307,10 +281,10 @@ evaluate_declared-evaluate-requires t c =
     let count = length (function_items items) in
     let depths = depths_of (function_items items) in
     let number = c.in-Some.number in
-    let below : number < c.args.scope.now.level = omega (arith, c.if-number-scope.false) in
+    let below : number < c.args.scope.now.level = c.in-Some.ensures.found.below in
     let d = falls_below count depths c.args.scope.now.ceiling c.args.scope.now.level number below in
-    let s = shallower (function_items items) number c.item.result.now c.item.ensures in
-    let b : depth_of c.item.result.now ≡ size-Expr c.in-Function.body = ap depth_of c.in-Function.is in
+    let s = shallower (function_items items) number c.in-Some.item.now c.in-Some.ensures.found.is in
+    let b : depth_of c.in-Some.item.now ≡ size-Expr c.in-Function.body = ap depth_of c.in-Function.is in
     let fits : length c.in-Function.params ≡ length c.args.args.now = omega (arith, c.if-len-args.false, c.len.ensures) in (
       omega (arith, d, s, b, c.decreases),
       record {
@@ -318,8 +292,8 @@ evaluate_declared-evaluate-requires t c =
         level = omega (arith, c.requires.level);
         ceiling = c.requires.ceiling;
         locals = (
-          ap length c.as_slice-in-Function-3.ensures ∙ c.in_ok-bounds-in-Function.ensures.count ∙ sym fits ∙ sym (ap length c.as_slice-in-Function-2.ensures),
-          (let P : List Bound → Type 0 = λ l. AreBelow c.args.scope.now.ceiling l in subst P (sym c.as_slice-in-Function-3.ensures) c.in_ok-bounds-in-Function.ensures.below),
+          ap length c.as_slice-in-Function-2.ensures ∙ c.in_ok-bounds-in-Function.ensures.count ∙ sym fits ∙ sym (ap length c.as_slice-in-Function.ensures),
+          (let P : List Bound → Type 0 = λ l. AreBelow c.args.scope.now.ceiling l in subst P (sym c.as_slice-in-Function-2.ensures) c.in_ok-bounds-in-Function.ensures.below),
         );
       },
     )

@@ -1,5 +1,5 @@
 use Rattle.std.proofs.Common.{ap, sym, subst, ◌∙◌, ◌≡◌, ℕ, None, Some, List}
-use Rattle.qc_widths.specs.Evaluated.{IsCallee, meanings_of}
+use Rattle.qc_widths.specs.Inner.KeptValues.{IsCallee, meanings_of}
 use Rattle.qc_widths.specs.Expressions.{function_of_bound, function_of_operator}
 use Rattle.qc_widths.specs.Scopes.{bound_in, meaning_in, operator_named}
 use Rattle.qc_widths.specs.Values as values

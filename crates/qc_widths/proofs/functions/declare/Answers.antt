@@ -2,7 +2,7 @@ use Rattle.std.specs.Prelude.{◌≡◌, ◌+◌}
 use Rattle.std.proofs.Common.{sym, ap, subst, ◌∙◌}
 use Rattle.std.proofs.lemmas.Result.{on_ok_weaker}
 use Rattle.qc_names.specs.Tables.{entered}
-use Rattle.qc_widths.specs.Tables.{HasFirst}
+use Rattle.qc_widths.specs.Inner.SpaceTables.{HasFirst}
 use Rattle.qc_widths.proofs.Numbered.{first-next}
 use Rattle.qc_widths.proofs.functions.declare.Goals as goal
 

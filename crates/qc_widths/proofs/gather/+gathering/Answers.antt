@@ -7,37 +7,23 @@ use Rattle.qc_widths.specs.declared.acts.Acts.TheVariants.{Huge}
 use Rattle.qc_widths.specs.declared.scope.Bound.{Bound}
 use Rattle.qc_widths.specs.Declarations.{arity_of, bound_params, meaning_of_effects, meanings_in, place_of_function, scope_for}
 use Rattle.qc_widths.specs.Effects.{acts_of, acts_of_effect, acts_of_meaning, act_on_memory, acts_of_simple}
-use Rattle.qc_widths.specs.Evaluated.{AreBound}
+use Rattle.qc_widths.specs.Inner.KeptValues.{AreBound}
 use Rattle.qc_widths.specs.Expressions.{bindings, expression_of, value_of}
-use Rattle.qc_widths.specs.Kept.{IsActs, seen_acts}
+use Rattle.qc_widths.specs.Inner.KeptEffects.{IsActs, seen_acts}
 use Rattle.qc_widths.specs.Scopes.{Act, Facts, Meaning, meaning_in, named}
-use Rattle.qc_widths.proofs.Declared.{effects_means, late_meaning, meaning_at, meaning_name, no_effects_means, no_meaning}
+use Rattle.qc_widths.proofs.Declared.{effects_means, no_effects_at}
 use Rattle.qc_widths.proofs.Gathered.{cut_behind, huge_so_far}
 use Rattle.qc_widths.proofs.Using.{got_some, bindings_length, function_takes_none, other_effects, use_effects, use_no_effects}
 use Rattle.qc_widths.proofs.gather.+gathering.Goals as goal
-
-pub acts_of_declared-returns-then-number-scope : goal.acts_of_declared-returns-then-number-scope
-acts_of_declared-returns-then-number-scope t c = λ spec is.
-    let items = c.args.scope.now.items.now in
-    let facts = c.args.scope.now.facts.now in
-    let ms = meanings_in facts items in
-    let level = c.args.scope.now.level in
-    let name = c.args.name.now.text in
-    let args = c.args.args.now in
-    let place : place_of_function items name ≡ Some c.in-Some.number = ap (λ n. place_of_function items n) (sym c.as_slice.ensures) ∙ sym c.find.ensures ∙ c.in-Some.is in
-    let none : meaning_in spec name ≡ None = ap (λ l. named meaning_name l name) is.functions ∙ late_meaning facts items level c.in-Some.number name place c.if-number-scope.true in
-    c.no_acts.ensures ∙ ap (λ m. seen_acts (acts_of_meaning spec None None m (map expression_of args))) (sym none)
 
 pub acts_of_declared-returns-in-None : goal.acts_of_declared-returns-in-None
 acts_of_declared-returns-in-None t c = λ spec is.
     let items = c.args.scope.now.items.now in
     let facts = c.args.scope.now.facts.now in
     let ms = meanings_in facts items in
-    let level = c.args.scope.now.level in
     let name = c.args.name.now.text in
     let args = c.args.args.now in
-    let place : place_of_function items name ≡ None = ap (λ n. place_of_function items n) (sym c.as_slice.ensures) ∙ sym c.find.ensures ∙ c.in-None.is in
-    let none : meaning_in spec name ≡ None = ap (λ l. named meaning_name l name) is.functions ∙ no_meaning facts items level name place in
+    let none : meaning_in spec name ≡ None = c.in-None.ensures.means spec is in
     c.no_acts-in-None.ensures ∙ ap (λ m. seen_acts (acts_of_meaning spec None None m (map expression_of args))) (sym none)
 
 pub acts_of_declared-returns-then-len-args : goal.acts_of_declared-returns-then-len-args
@@ -45,19 +31,15 @@ acts_of_declared-returns-then-len-args t c = λ spec is.
     let items = c.args.scope.now.items.now in
     let facts = c.args.scope.now.facts.now in
     let ms = meanings_in facts items in
-    let level = c.args.scope.now.level in
     let name = c.args.name.now.text in
     let args = c.args.args.now in
-    let place : place_of_function items name ≡ Some c.in-Some.number = ap (λ n. place_of_function items n) (sym c.as_slice.ensures) ∙ sym c.find.ensures ∙ c.in-Some.is in
     let number = c.in-Some.number in
-    let r = meaning_at facts items level number name place (omega (arith, c.if-number-scope.false)) in
-    let known : meaning_in spec name ≡ Some r.meaning = ap (λ l. named meaning_name l name) is.functions ∙ r.named in
     let params = c.in-Effects.params in
     let body = c.in-Effects.body in
     let m : Meaning = meaning_of_effects facts (take number ms) c.in-Effects.name params body in
-    let gets : slice_get ms number ≡ Some m = effects_means facts items number c.item.result.now c.in-Effects.token c.in-Effects.name params body c.item.ensures c.in-Effects.is in
-    let known' : meaning_in spec name ≡ Some m = known ∙ sym r.gets ∙ gets in
-    c.no_acts-then-len-args.ensures ∙ ap seen_acts (sym (use_no_effects spec (meaning_in spec name) m args known'
+    let gets : slice_get ms number ≡ Some m = effects_means facts items number c.in-Some.item.now c.in-Effects.token c.in-Effects.name params body c.in-Some.ensures.found.is c.in-Effects.is in
+    let known : meaning_in spec name ≡ Some m = c.in-Some.ensures.means spec is ∙ gets in
+    c.no_acts.ensures ∙ ap seen_acts (sym (use_no_effects spec (meaning_in spec name) m args known
     (other_effects facts (take number ms) c.in-Effects.name params body args (λ e. absurd (omega (arith, e, c.if-len-args.true, c.len.ensures))))))
 
 pub acts_of_declared-returns-in_default : goal.acts_of_declared-returns-in_default
@@ -65,54 +47,46 @@ acts_of_declared-returns-in_default t c = λ spec is.
     let items = c.args.scope.now.items.now in
     let facts = c.args.scope.now.facts.now in
     let ms = meanings_in facts items in
-    let level = c.args.scope.now.level in
     let name = c.args.name.now.text in
     let args = c.args.args.now in
-    let place : place_of_function items name ≡ Some c.in-Some.number = ap (λ n. place_of_function items n) (sym c.as_slice.ensures) ∙ sym c.find.ensures ∙ c.in-Some.is in
     let number = c.in-Some.number in
-    let r = meaning_at facts items level number name place (omega (arith, c.if-number-scope.false)) in
-    let known : meaning_in spec name ≡ Some r.meaning = ap (λ l. named meaning_name l name) is.functions ∙ r.named in
-    let plain : r.meaning.signature.effects ≡ false = no_effects_means facts items number c.item.result.now r.meaning c.item.ensures c.in_default.not-Effects r.gets in
-    c.no_acts-in_default.ensures ∙ ap seen_acts (sym (use_no_effects spec (meaning_in spec name) r.meaning args known
-    (function_takes_none r.meaning (length (map expression_of args)) plain)))
+    let r = no_effects_at facts items number c.in-Some.item.now c.in-Some.ensures.found.is c.in_default.not-Effects in
+    c.no_acts-in_default.ensures ∙ ap seen_acts (sym (use_no_effects spec (meaning_in spec name) r.0 args (c.in-Some.ensures.means spec is ∙ r.1)
+    (function_takes_none r.0 (length (map expression_of args)) r.2)))
 
 pub acts_of_declared-returns-in_ok-bounds-in-Effects : goal.acts_of_declared-returns-in_ok-bounds-in-Effects
 acts_of_declared-returns-in_ok-bounds-in-Effects t c = λ spec is.
     let items = c.args.scope.now.items.now in
     let facts = c.args.scope.now.facts.now in
     let ms = meanings_in facts items in
-    let level = c.args.scope.now.level in
     let name = c.args.name.now.text in
     let args = c.args.args.now in
-    let place : place_of_function items name ≡ Some c.in-Some.number = ap (λ n. place_of_function items n) (sym c.as_slice.ensures) ∙ sym c.find.ensures ∙ c.in-Some.is in
     let number = c.in-Some.number in
-    let r = meaning_at facts items level number name place (omega (arith, c.if-number-scope.false)) in
-    let known : meaning_in spec name ≡ Some r.meaning = ap (λ l. named meaning_name l name) is.functions ∙ r.named in
     let params = c.in-Effects.params in
     let body = c.in-Effects.body in
     let m : Meaning = meaning_of_effects facts (take number ms) c.in-Effects.name params body in
-    let gets : slice_get ms number ≡ Some m = effects_means facts items number c.item.result.now c.in-Effects.token c.in-Effects.name params body c.item.ensures c.in-Effects.is in
-    let known' : meaning_in spec name ≡ Some m = known ∙ sym r.gets ∙ gets in
+    let gets : slice_get ms number ≡ Some m = effects_means facts items number c.in-Some.item.now c.in-Effects.token c.in-Effects.name params body c.in-Some.ensures.found.is c.in-Effects.is in
+    let known : meaning_in spec name ≡ Some m = c.in-Some.ensures.means spec is ∙ gets in
     let fits : length params ≡ length args = omega (arith, c.if-len-args.false, c.len.ensures) in
     let bounds = bindings spec (map arity_of params) (map expression_of args) in
-    let used = use_effects spec facts (take number ms) (meaning_in spec name) c.in-Effects.name params body args known' fits in
+    let used = use_effects spec facts (take number ms) (meaning_in spec name) c.in-Effects.name params body args known fits in
     let inner = scope_for facts (take number ms) (bound_params params bounds) in
     let P : List Act → Type 0 = λ x. IfOk c.acts_of_effects.result (λ a. IsActs a x) in
     subst P (sym used) (let Q : List Effect → Type 0 = λ b. P (acts_of inner b) in
-    subst Q c.as_slice-in-Effects-4.ensures (c.acts_of_effects.ensures inner (record {
+    subst Q c.as_slice-in-Effects-3.ensures (c.acts_of_effects.ensures inner (record {
       facts = refl;
       functions = refl;
       locals = record {
         bounds = bounds;
-        is = ap (λ l. bound_params l bounds) (sym c.as_slice-in-Effects-2.ensures);
+        is = ap (λ l. bound_params l bounds) (sym c.as_slice-in-Effects.ensures);
         count = bindings_length spec (map arity_of params) (map expression_of args) (length-map params arity_of ∙ fits ∙ sym (length-map args expression_of))
-            ∙ length-map params arity_of ∙ sym (ap length c.as_slice-in-Effects-2.ensures);
-        bound = let R : ℕ → Type 0 = λ n. AreBound ms n c.as_slice-in-Effects-3.result.now bounds in
+            ∙ length-map params arity_of ∙ sym (ap length c.as_slice-in-Effects.ensures);
+        bound = let R : ℕ → Type 0 = λ n. AreBound ms n c.as_slice-in-Effects-2.result.now bounds in
             let S : List Bound → Type 0 = λ l. AreBound ms (length args) l bounds in
             let T : List Param → Type 0 = λ l. AreBound ms (length args) c.in_ok-bounds-in-Effects.bounds (bindings spec (map arity_of l) (map expression_of args)) in
-            subst R (sym fits ∙ sym (ap length c.as_slice-in-Effects-2.ensures))
-            (subst S (sym c.as_slice-in-Effects-3.ensures)
-            (subst T c.as_slice-in-Effects.ensures (c.in_ok-bounds-in-Effects.ensures.bound spec is)));
+            subst R (sym fits ∙ sym (ap length c.as_slice-in-Effects.ensures))
+            (subst S (sym c.as_slice-in-Effects-2.ensures)
+            (subst T c.as_slice.ensures (c.in_ok-bounds-in-Effects.ensures.bound spec is)));
       };
     })))
 

@@ -1,7 +1,7 @@
 use Rattle.std.proofs.Common.{◌+◌, ◌*◌, take}
 use Rattle.qc_widths.specs.Effects.{acts_of}
-use Rattle.qc_widths.specs.Evaluated.{IsScope}
-use Rattle.qc_widths.specs.Kept.{IsActs}
+use Rattle.qc_widths.specs.Inner.KeptValues.{IsScope}
+use Rattle.qc_widths.specs.Inner.KeptEffects.{IsActs}
 use Rattle.qc_widths.specs.Scopes.{Scope as SpecScope}
 use Rattle.qc_widths.proofs.gather.+gathering.Given as goal
 

@@ -1,7 +1,7 @@
 use Rattle.std.proofs.Common.{◌≡◌, true, drop}
 use Rattle.std.specs.List.{list_all}
-use Rattle.qc_widths.specs.Given.{has_small_cells}
-use Rattle.qc_widths.specs.Machine.{first_given, allocatable_given}
+use Rattle.qc_widths.specs.GivenFacts.{first_given, allocatable_given}
+use Rattle.qc_widths.specs.Inner.Given.{has_small_cells}
 use Rattle.qc_widths.proofs.given.allocatable_given.Given as goal
 
 -- no item so far gives one

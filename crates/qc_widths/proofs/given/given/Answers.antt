@@ -1,7 +1,7 @@
 use Rattle.std.specs.Prelude.{◌≡◌}
 use Rattle.std.proofs.Common.{ap, ◌∙◌}
+use Rattle.qc_widths.specs.GivenFacts.{first_given, zero_given, frame_given, link_given, allocatable_given}
 use Rattle.qc_descr.specs.declared.parts.Given.{Given}
-use Rattle.qc_widths.specs.Machine.{first_given, frame_given, link_given, zero_given, allocatable_given}
 use Rattle.qc_widths.proofs.given.given.Goals as goal
 
 same_given : (g h : Given) → g.word ≡ h.word → g.order ≡ h.order → g.align ≡ h.align → g.slot_bits ≡ h.slot_bits →

@@ -1,6 +1,6 @@
 use Rattle.std.proofs.Common.{◌≡◌, drop}
-use Rattle.qc_widths.specs.Given.{size_of_item}
-use Rattle.qc_widths.specs.Machine.{first_given}
+use Rattle.qc_widths.specs.GivenFacts.{first_given}
+use Rattle.qc_widths.specs.Inner.Given.{size_of_item}
 use Rattle.qc_widths.proofs.given.size_given.Given as goal
 
 -- no item so far gives one

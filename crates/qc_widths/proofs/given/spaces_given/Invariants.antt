@@ -1,6 +1,6 @@
 use Rattle.std.proofs.Common.{◌≡◌, ◌++◌, true, drop, map}
 use Rattle.std.specs.List.{list_all}
-use Rattle.qc_widths.specs.Given.{is_small_space}
+use Rattle.qc_widths.specs.Inner.Given.{is_small_space}
 use Rattle.qc_widths.specs.Machine.{space_of}
 use Rattle.qc_widths.proofs.given.spaces_given.Given as goal
 

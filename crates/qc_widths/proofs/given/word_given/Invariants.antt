@@ -1,5 +1,5 @@
 use Rattle.std.proofs.Common.{◌≡◌, drop}
-use Rattle.qc_widths.specs.Machine.{first_given, word_given}
+use Rattle.qc_widths.specs.GivenFacts.{first_given, word_given}
 use Rattle.qc_widths.proofs.given.word_given.Given as goal
 
 -- no item so far gives one

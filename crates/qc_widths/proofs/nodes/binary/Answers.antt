@@ -1,5 +1,5 @@
 use Rattle.std.proofs.Common.{sym, ◌∙◌, ◌≡◌, ◌+◌, ◌<◌, ◌≤◌, arith}
-use Rattle.qc_widths.specs.Evaluated.{nodes_in}
+use Rattle.qc_widths.specs.Inner.KeptValues.{nodes_in}
 use Rattle.qc_widths.proofs.Seen.{seen_large, huge_of, parts_of, huge_bin}
 use Rattle.qc_widths.proofs.Building.{bin_is}
 use Rattle.qc_widths.proofs.nodes.binary.Goals as goal
@@ -14,8 +14,8 @@ returns-in-Huge-right c = λ one two is also.
     let h : 4096 < nodes_in two = huge_of two (sym c.in-Huge-right.is ∙ also) in
     sym (seen_large _ (huge_bin _ one two (omega arith)))
 
-pub returns-then-nodes-ge-LIMIT : goal.returns-then-nodes-ge-LIMIT
-returns-then-nodes-ge-LIMIT c = λ one two is also.
+pub returns-then-nodes-ge-MOST_NODES : goal.returns-then-nodes-ge-MOST_NODES
+returns-then-nodes-ge-MOST_NODES c = λ one two is also.
     let p = parts_of _ _ _ _ _ _ one (sym c.in-Known.is ∙ is) in
     let q = parts_of _ _ _ _ _ _ two (sym c.in-Known-right.is ∙ also) in
     let n : c.in-Known.nodes ≡ nodes_in one = p.nodes in
@@ -29,6 +29,6 @@ returns-in_ok-right-in-Known-right c = λ one two is also.
     let n : c.in-Known.nodes ≤ 4096 = omega (arith, p.nodes, p.small) in
     let m : c.in-Known-right.more ≤ 4096 = omega (arith, q.nodes, q.small) in
     let e : c.saturating_add-nodes.result ≡ c.in-Known.nodes + c.in-Known-right.more = omega (arith, c.saturating_add-nodes.ensures) in
-    bin_is _ c.args.op c.args.token one two _ _ _ _ _ _ _ _ _ _ _ _ _ _ _ _ _ _ _ p q e c.if-nodes-ge-LIMIT.false
+    bin_is _ c.args.op c.args.token one two _ _ _ _ _ _ _ _ _ _ _ _ _ _ _ _ _ _ _ p q e c.if-nodes-ge-MOST_NODES.false
     c.in_ok-left-in-Known-right.ensures c.in_ok-right-in-Known-right.ensures c.operator_width-joint.ensures
     c.both-sound.ensures c.earlier-inner.ensures c.mismatch-own.ensures c.node.ensures

@@ -1,7 +1,7 @@
 use Rattle.std.specs.Prelude.{◌≡◌, ◌∷◌, ◌+◌, drop}
 use Rattle.std.proofs.Common.{arith, ap, sym, ◌∙◌, subst}
 use Rattle.std.proofs.lemmas.List.{at_drop_more}
-use Rattle.qc_widths.specs.Elaboration.{IsBehind}
+use Rattle.qc_widths.specs.Inner.Elaboration.{IsBehind}
 use Rattle.qc_widths.proofs.ItemByItem.{behind-none, behind-next, one-name}
 use Rattle.qc_widths.proofs.progress.elaborate_items.Goals as goal
 

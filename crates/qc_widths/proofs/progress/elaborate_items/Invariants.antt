@@ -1,5 +1,5 @@
 use Rattle.std.proofs.Common.{◌≤◌, drop}
-use Rattle.qc_widths.specs.Elaboration.{IsBehind}
+use Rattle.qc_widths.specs.Inner.Elaboration.{IsBehind}
 use Rattle.qc_widths.proofs.progress.elaborate_items.Given as goal
 
 abbrev pub invariant-loop-item : goal.invariant-loop-item

@@ -1,6 +1,6 @@
 use Rattle.std.proofs.Common.{ap, sym, subst, ◌∙◌, ◌≡◌, ◌<◌, arith, rules, length, Some}
 use Rattle.qc_widths.specs.declared.scope.Bound.{Bound}
-use Rattle.qc_widths.specs.Evaluated.{IsBound}
+use Rattle.qc_widths.specs.Inner.KeptValues.{IsBound}
 use Rattle.qc_widths.specs.Scopes.{local_bound, named}
 use Rattle.qc_widths.proofs.Places.{got, placed_bound, unplaced_bound, placed_named, param_name, bound_name}
 use Rattle.qc_widths.proofs.Using.{got_some}

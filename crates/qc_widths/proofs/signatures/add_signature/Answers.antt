@@ -4,8 +4,8 @@ use Rattle.qc_lrtl.specs.declared.syntax.Param.{Param}
 use Rattle.qc_widths.specs.declared.signatures.Signature as kept
 use Rattle.qc_widths.specs.Scopes.{Signature}
 use Rattle.qc_widths.specs.Declarations.{locals_of_params, names_for, signature_of_item, signatures_in}
-use Rattle.qc_widths.specs.Summaries.{summary, kept_of_effects}
-use Rattle.qc_widths.specs.NamesAt.{names_at}
+use Rattle.qc_widths.specs.Inner.KeptSignatures.{summary, kept_of_effects}
+use Rattle.qc_widths.specs.Inner.KeptNames.{names_at}
 use Rattle.qc_widths.proofs.signatures.add_signature.Goals as goal
 
 pub returns-in_ok-push-in-Effects : goal.returns-in_ok-push-in-Effects

@@ -1,7 +1,7 @@
 use Rattle.std.proofs.Common.{◌≡◌, map, take}
 use Rattle.qc_widths.specs.Declarations.{targets_of_param}
-use Rattle.qc_widths.specs.Summaries.{least}
-use Rattle.qc_widths.specs.NamesAt.{names_at}
+use Rattle.qc_widths.specs.Inner.KeptSignatures.{least}
+use Rattle.qc_widths.specs.Inner.KeptNames.{names_at}
 use Rattle.qc_widths.proofs.signatures.param_targets.Given as goal
 
 abbrev pub invariant-loop-param : goal.invariant-loop-param

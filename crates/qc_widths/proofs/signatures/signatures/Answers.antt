@@ -2,7 +2,7 @@ use Rattle.std.proofs.Common.{ℕ, ◌++◌, [], List, length, map, take, sym, a
 use Rattle.std.proofs.lemmas.List.{map-append}
 use Rattle.qc_widths.specs.Scopes.{Signature}
 use Rattle.qc_widths.specs.Declarations.{signature_of_item, signatures_after, signatures_in}
-use Rattle.qc_widths.specs.Summaries.{summary}
+use Rattle.qc_widths.specs.Inner.KeptSignatures.{summary}
 use Rattle.qc_widths.proofs.Earlier.{signatures-next, first_of_all}
 use Rattle.qc_widths.proofs.signatures.signatures.Goals as goal
 

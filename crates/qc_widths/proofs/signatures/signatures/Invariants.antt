@@ -1,6 +1,6 @@
 use Rattle.std.proofs.Common.{◌≡◌, [], map, take}
 use Rattle.qc_widths.specs.Declarations.{signatures_after}
-use Rattle.qc_widths.specs.Summaries.{summary}
+use Rattle.qc_widths.specs.Inner.KeptSignatures.{summary}
 use Rattle.qc_widths.proofs.signatures.signatures.Given as goal
 
 -- those of the items that the loop has passed

@@ -1,7 +1,7 @@
 use Rattle.std.proofs.Common.{arith, sym, subst, ap, ◌∙◌, ◌++◌, ◌∷◌, []}
 use Rattle.std.proofs.lemmas.Result.{on_ok_weaker}
 use Rattle.qc_names.specs.Tables.{entered}
-use Rattle.qc_widths.specs.Tables.{HasTable}
+use Rattle.qc_widths.specs.Inner.SpaceTables.{HasTable}
 use Rattle.qc_widths.proofs.Tables.{table-entered}
 use Rattle.qc_widths.proofs.spaces.add_space.Goals as goal
 

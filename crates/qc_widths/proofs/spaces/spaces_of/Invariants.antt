@@ -1,7 +1,7 @@
 use Rattle.std.proofs.Common.{◌≡◌, ◌++◌, drop}
 use Rattle.std.specs.List.{flat_map}
 use Rattle.qc_widths.specs.Declarations.{space_of_item}
-use Rattle.qc_widths.specs.Tables.{HasTable}
+use Rattle.qc_widths.specs.Inner.SpaceTables.{HasTable}
 use Rattle.qc_widths.proofs.spaces.spaces_of.Given as goal
 
 -- the spaces so far, and those of the rest

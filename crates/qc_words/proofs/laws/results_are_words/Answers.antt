@@ -1,4 +1,4 @@
-use Rattle.qc_words.proofs.OperatorLemmas.{result_of-lt}
+use Rattle.qc_words.specs.Law.Results.{result_of-lt}
 use Rattle.qc_words.proofs.laws.results_are_words.Goals as goal
 
 pub returns : goal.returns

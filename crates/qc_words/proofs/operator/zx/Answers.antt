@@ -1,4 +1,4 @@
-use Rattle.qc_words.proofs.WordLemmas.{word_of_wider}
+use Rattle.qc_words.specs.Law.Results.{word_of_wider}
 use Rattle.qc_words.proofs.operator.zx.Goals as goal
 
 pub returns-clause-word : goal.returns-clause-word

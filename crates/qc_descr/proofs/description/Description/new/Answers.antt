@@ -1,10 +1,13 @@
 use Rattle.std.proofs.Common.{◌≡◌, None, ◌∙◌, sym, subst, ap, List, All, length, ◌+◌, ◌≤◌, refl, arith}
 use Rattle.qc_descr.specs.declared.description.Instruction.{Instruction}
 use Rattle.qc_descr.specs.Making.{description_of, fault_of, instructions_of}
-use Rattle.qc_descr.specs.Overlaps.{HasBytes}
+use Rattle.qc_descr.specs.Inner.Overlaps.{HasBytes}
 use Rattle.qc_descr.specs.Valid.{IsValid}
-use Rattle.qc_descr.proofs.Wholes.{whole_bytes, whole_fault, whole_few, whole_length, whole_slot_bits}
+use Rattle.qc_descr.proofs.Wholes.{own_fault_first, whole_bytes, whole_fault, whole_few, whole_length, whole_slot_bits}
 use Rattle.qc_descr.proofs.description.Description.new.Goals as goal
+
+pub returns-in-Some-clause-answer : goal.returns-in-Some-clause-answer
+returns-in-Some-clause-answer c = own_fault_first c.args.parts c.in-Some.fault (sym c.own_fault.ensures ∙ c.in-Some.is)
 
 pub instructions_of-requires : goal.instructions_of-requires
 instructions_of-requires c = whole_length c.args.parts c.requires.parts

@@ -1,6 +1,6 @@
 use Rattle.std.proofs.Common.{◌∙◌, ap}
 use Rattle.qc_names.specs.Tables.{number_at}
-use Rattle.qc_names.proofs.Tables.{number_at-shown}
+use Rattle.qc_names.specs.Law.Tables.{number_at-shown}
 use Rattle.qc_names.proofs.name_table.NameTable.number.Goals as goal
 
 pub returns : goal.returns

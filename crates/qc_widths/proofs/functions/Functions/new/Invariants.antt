@@ -1,4 +1,4 @@
-use Rattle.qc_widths.specs.Tables.{HasFirst}
+use Rattle.qc_widths.specs.Inner.SpaceTables.{HasFirst}
 use Rattle.qc_widths.proofs.functions.Functions.new.Given as goal
 
 abbrev pub invariant-loop-place : goal.invariant-loop-place

@@ -2,8 +2,8 @@ use Rattle.std.proofs.Common.{List, ℕ, take, sym, ap, ◌∙◌}
 use Rattle.std.specs.List.{flat_map}
 use Rattle.qc_lrtl.specs.declared.syntax.Effect.{Effect}
 use Rattle.qc_widths.specs.Effects.{effect_events}
-use Rattle.qc_widths.specs.Summaries.{events_in, joined_events}
-use Rattle.qc_widths.specs.NamesAt.{names_at}
+use Rattle.qc_widths.specs.Inner.KeptSignatures.{events_in, joined_events}
+use Rattle.qc_widths.specs.Inner.KeptNames.{names_at}
 use Rattle.qc_widths.proofs.Kept.{events-none, events-append, flat_map_next}
 use Rattle.qc_widths.proofs.names.effects.body_events.Goals as goal
 

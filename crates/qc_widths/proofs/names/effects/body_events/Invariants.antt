@@ -1,8 +1,8 @@
 use Rattle.std.proofs.Common.{◌≡◌, take}
 use Rattle.std.specs.List.{flat_map}
 use Rattle.qc_widths.specs.Effects.{effect_events}
-use Rattle.qc_widths.specs.Summaries.{events_in}
-use Rattle.qc_widths.specs.NamesAt.{names_at}
+use Rattle.qc_widths.specs.Inner.KeptSignatures.{events_in}
+use Rattle.qc_widths.specs.Inner.KeptNames.{names_at}
 use Rattle.qc_widths.proofs.names.effects.body_events.Given as goal
 
 abbrev pub invariant-loop-effect : goal.invariant-loop-effect

@@ -2,8 +2,8 @@ use Rattle.std.proofs.Common.{List, ℕ, take, sym, ap, ◌∙◌}
 use Rattle.std.specs.List.{flat_map}
 use Rattle.qc_lrtl.specs.declared.syntax.Effect.{Effect}
 use Rattle.qc_widths.specs.Effects.{effect_targets}
-use Rattle.qc_widths.specs.Summaries.{least, lesser}
-use Rattle.qc_widths.specs.NamesAt.{names_at}
+use Rattle.qc_widths.specs.Inner.KeptSignatures.{least, lesser}
+use Rattle.qc_widths.specs.Inner.KeptNames.{names_at}
 use Rattle.qc_widths.proofs.Kept.{least-none, least-append, flat_map_next}
 use Rattle.qc_widths.proofs.names.effects.body_target.Goals as goal
 

@@ -1,8 +1,8 @@
 use Rattle.std.proofs.Common.{◌≡◌, take}
 use Rattle.std.specs.List.{flat_map}
 use Rattle.qc_widths.specs.Effects.{effect_targets}
-use Rattle.qc_widths.specs.Summaries.{least}
-use Rattle.qc_widths.specs.NamesAt.{names_at}
+use Rattle.qc_widths.specs.Inner.KeptSignatures.{least}
+use Rattle.qc_widths.specs.Inner.KeptNames.{names_at}
 use Rattle.qc_widths.proofs.names.effects.body_target.Given as goal
 
 abbrev pub invariant-loop-effect : goal.invariant-loop-effect

@@ -4,8 +4,8 @@ use Rattle.qc_widths.specs.declared.signatures.Signature as kept
 use Rattle.qc_widths.specs.Scopes.{Names, Signature}
 use Rattle.qc_widths.specs.Expressions.{Expression, expression_of}
 use Rattle.qc_widths.specs.Effects.{effects_named, effect_targets, simple_targets, targets_at, targets_of}
-use Rattle.qc_widths.specs.Summaries.{summary, signature_like, at_most_one, least}
-use Rattle.qc_widths.specs.NamesAt.{names_at}
+use Rattle.qc_widths.specs.Inner.KeptSignatures.{summary, signature_like, at_most_one, least}
+use Rattle.qc_widths.specs.Inner.KeptNames.{names_at}
 use Rattle.qc_widths.proofs.Kept.{targets-kept}
 use Rattle.qc_widths.proofs.names.effects.effect_target.Goals as goal
 

@@ -1,7 +1,7 @@
 use Rattle.std.proofs.Common.{◌≡◌, drop, map}
 use Rattle.qc_widths.specs.Expressions.{expression_of}
 use Rattle.qc_widths.specs.Effects.{targets_at}
-use Rattle.qc_widths.specs.Summaries.{least, lesser, at_most_one}
+use Rattle.qc_widths.specs.Inner.KeptSignatures.{least, lesser, at_most_one}
 use Rattle.qc_widths.proofs.names.effects.target_at.Given as goal
 
 abbrev pub invariant-loop-place : goal.invariant-loop-place

@@ -1,5 +1,5 @@
 use Rattle.std.proofs.Common.{arith}
-use Rattle.qc_widths.specs.NamesAt.{names_at}
+use Rattle.qc_widths.specs.Inner.KeptNames.{names_at}
 use Rattle.qc_widths.proofs.ArgumentLists.{targets_pairwise}
 use Rattle.qc_widths.proofs.Paired.{pairs_more, pairs_all}
 use Rattle.qc_widths.proofs.names.effects.target_fault.Goals as goal

@@ -1,13 +1,13 @@
 use Rattle.std.proofs.Common.{◌≡◌, List, Option, Some, length, map, sym, ap, ◌∙◌}
 use Rattle.std.specs.Option.{option_map, option_copied}
-use Rattle.qc_widths.specs.Faults.{told, told_of_both}
+use Rattle.qc_widths.specs.Faults.{reported, reported_of_both, token_of, rank_of}
 use Rattle.qc_widths.specs.declared.signatures.Signature as kept
 use Rattle.qc_widths.specs.Scopes.{Names, Signature}
 use Rattle.qc_widths.specs.Expressions.{Expression, expression_of, argument_faults}
 use Rattle.qc_widths.specs.Effects.{effects_named, effects_faults, target_faults}
-use Rattle.qc_widths.specs.Summaries.{summary, signature_like, at_most_one}
-use Rattle.qc_widths.specs.NamesAt.{names_at}
-use Rattle.qc_widths.proofs.Told.{told-append}
+use Rattle.qc_widths.specs.Inner.KeptSignatures.{summary, signature_like, at_most_one}
+use Rattle.qc_widths.specs.Inner.KeptNames.{names_at}
+use Rattle.qc_names.specs.Law.Reported.{reported-append}
 use Rattle.qc_widths.proofs.Kept.{use-kept}
 use Rattle.qc_widths.proofs.names.effects.use_fault.Goals as goal
 
@@ -18,13 +18,13 @@ returns-in-Some c =
     let args : List Expression = map expression_of c.args.args.now in
     let named : Option Signature = effects_named names c.args.name.now (length c.args.args.now) in
     let is : option_map summary named ≡ Some s = sym c.effects_named.ensures ∙ ap option_copied c.in-Some.is in
-    let arguments : c.argument_fault.result ≡ told (argument_faults names s.params args) =
-    c.argument_fault.ensures ∙ ap (λ ps. told (argument_faults names ps args)) c.as_slice.ensures in
-    let targets : c.target_fault.result ≡ told (target_faults names (map at_most_one s.targets) args) =
+    let arguments : c.argument_fault.result ≡ reported (argument_faults names s.params args) =
+    c.argument_fault.ensures ∙ ap (λ ps. reported (argument_faults names ps args)) c.as_slice.ensures in
+    let targets : c.target_fault.result ≡ reported (target_faults names (map at_most_one s.targets) args) =
     c.target_fault.ensures
-    ∙ ap (λ ts. told (target_faults names (map at_most_one ts) args)) c.as_slice-in-Some.ensures in
-    c.earlier.ensures ∙ ap (λ f. told_of_both f c.target_fault.result) arguments
-    ∙ ap (told_of_both (told (argument_faults names s.params args))) targets
-    ∙ sym (told-append (argument_faults names s.params args) (target_faults names (map at_most_one s.targets) args))
-    ∙ ap (λ k. told (effects_faults names (option_map signature_like k) c.args.name.now.token args)) (sym is)
+    ∙ ap (λ ts. reported (target_faults names (map at_most_one ts) args)) c.as_slice-in-Some.ensures in
+    c.earlier.ensures ∙ ap (λ f. reported_of_both f c.target_fault.result) arguments
+    ∙ ap (reported_of_both (reported (argument_faults names s.params args))) targets
+    ∙ sym (reported-append token_of rank_of (argument_faults names s.params args) (target_faults names (map at_most_one s.targets) args))
+    ∙ ap (λ k. reported (effects_faults names (option_map signature_like k) c.args.name.now.token args)) (sym is)
     ∙ use-kept names named c.args.name.now.token args

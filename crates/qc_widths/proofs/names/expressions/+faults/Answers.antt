@@ -1,9 +1,10 @@
 use Rattle.std.proofs.Common.{List, map, refl, arith}
+use Rattle.qc_widths.specs.Faults.{token_of, rank_of}
 use Rattle.qc_lrtl.specs.declared.syntax.Expr.{Expr}
 use Rattle.qc_widths.specs.declared.faults.WidthFault.{WidthFault}
 use Rattle.qc_widths.specs.Expressions.{expression_of, plain_faults, faults_in}
-use Rattle.qc_widths.specs.NamesAt.{names_at}
-use Rattle.qc_widths.proofs.Told.{told_more}
+use Rattle.qc_widths.specs.Inner.KeptNames.{names_at}
+use Rattle.qc_names.specs.Law.Reported.{reported_more}
 use Rattle.qc_widths.proofs.ArgumentLists.{arguments_pairwise}
 use Rattle.qc_widths.proofs.Paired.{pairs_more, pairs_all}
 use Rattle.qc_widths.proofs.names.expressions.+faults.Goals as goal
@@ -12,7 +13,7 @@ pub plain_fault-loop-arg-preserved : goal.plain_fault-loop-arg-preserved
 plain_fault-loop-arg-preserved t c =
     let faults : List Expr → List WidthFault =
     λ args. plain_faults (names_at c.args.names.now) (map expression_of args) in
-    told_more faults (faults_in (names_at c.args.names.now)) (λ arg args. refl) c.args.args.now
+    reported_more token_of rank_of faults (faults_in (names_at c.args.names.now)) (λ arg args. refl) c.args.args.now
     c.loop-arg.arg-index c.arg-item.result c.loop-arg.found c.expression_fault.result _ _ c.loop-arg-test.true
     c.arg-item.is c.expression_fault.ensures c.earlier-found.ensures c.loop-arg.invariant
 

@@ -1,17 +1,17 @@
 use Rattle.std.proofs.Common.{◌≡◌, drop, map}
-use Rattle.qc_widths.specs.Faults.{told, told_of_both}
+use Rattle.qc_widths.specs.Faults.{reported, reported_of_both}
 use Rattle.qc_widths.specs.Expressions.{expression_of, plain_faults, argument_faults}
-use Rattle.qc_widths.specs.NamesAt.{names_at}
+use Rattle.qc_widths.specs.Inner.KeptNames.{names_at}
 use Rattle.qc_widths.proofs.names.expressions.+faults.Given as goal
 
--- the fault that was found, and what is told of the rest
+-- the fault that was found, and what is reported of the rest
 abbrev pub invariant-plain_fault-loop-arg : goal.invariant-plain_fault-loop-arg
 invariant-plain_fault-loop-arg l =
-    told_of_both l.found (told (plain_faults (names_at l.names) (map expression_of (drop l.arg-index l.args))))
-    ≡ told (plain_faults (names_at l.names) (map expression_of l.args))
+    reported_of_both l.found (reported (plain_faults (names_at l.names) (map expression_of (drop l.arg-index l.args))))
+    ≡ reported (plain_faults (names_at l.names) (map expression_of l.args))
 
 abbrev pub invariant-argument_fault-loop-place : goal.invariant-argument_fault-loop-place
 invariant-argument_fault-loop-place l =
-    told_of_both l.found (told (argument_faults (names_at l.names) (drop l.place l.params)
+    reported_of_both l.found (reported (argument_faults (names_at l.names) (drop l.place l.params)
     (map expression_of (drop l.place l.args))))
-    ≡ told (argument_faults (names_at l.names) l.params (map expression_of l.args))
+    ≡ reported (argument_faults (names_at l.names) l.params (map expression_of l.args))

@@ -1,7 +1,0 @@
-use Rattle.std.proofs.Common.{◌≡◌, drop}
-use Rattle.std.specs.List.{list_any}
-use Rattle.qc_descr.specs.CodingFaults.{is_twice}
-use Rattle.qc_descr.proofs.coding_faults.has_twice.Given as goal
-
-abbrev pub invariant-loop-claim : goal.invariant-loop-claim
-invariant-loop-claim l = list_any is_twice (drop l.claim-index l.claims) ≡ list_any is_twice l.claims

@@ -1,0 +1,4 @@
+pub mod Matches
+pub mod RowValues
+pub mod Sides
+pub mod Values

@@ -1,0 +1,2 @@
+-- Vocabulary of private contracts.
+pub mod WordLaws

@@ -1,0 +1,9 @@
+pub mod Alike
+pub mod Examples
+pub mod Inner
+pub mod Law
+pub mod Matching
+pub mod Pattern
+pub mod Steps
+pub mod Table
+pub mod Turning

@@ -1,0 +1,5 @@
+pub mod Decimals
+pub mod Lexemes
+pub mod Names
+pub mod Scanned
+pub mod Writing

@@ -1,0 +1,15 @@
+pub mod Answer
+pub mod Brackets
+pub mod Grammar
+pub mod Inner
+pub mod Language
+pub mod Law
+pub mod Lexeme
+pub mod Lists
+pub mod Printing
+pub mod Reading
+pub mod ReaderResult
+pub mod SameUpToTokens
+pub mod Spelled
+pub mod TextAnswer
+pub mod TokenSpans

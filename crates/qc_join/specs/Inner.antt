@@ -1,0 +1,4 @@
+-- Words of contracts of private functions.
+pub mod Constructors
+pub mod Expanding
+pub mod KeptNames

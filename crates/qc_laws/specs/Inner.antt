@@ -1,0 +1,4 @@
+-- What private contracts cite.
+pub mod Ids
+pub mod Forms
+pub mod Spelling

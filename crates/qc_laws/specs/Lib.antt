@@ -1,0 +1,4 @@
+pub mod Inner
+pub mod Law
+pub mod Given
+pub mod Names

@@ -1,0 +1,11 @@
+//! Rows on pools, laws and tiles, by public calls alone.
+#![tactic(auto)]
+
+#[cfg(test)]
+mod laws;
+#[cfg(test)]
+mod pool;
+#[cfg(test)]
+mod terms;
+#[cfg(test)]
+mod tiles;

@@ -1,0 +1,13 @@
+use Rattle.qc_grammar.specs.Lexeme.{lexemes_from}
+use Rattle.qc_grammar.specs.Law.Ended.{ended}
+use Rattle.qc_grammar.specs.Law.OneAnswer.{answered}
+use Rattle.qc_sample.specs.Blocks.{blocks, block, block_is_readable}
+use Rattle.qc_sample.proofs.blocks.read_block_tokens.Goals as goal
+
+pub returns : goal.returns
+returns c = answered blocks block block_is_readable
+    (lexemes_from c.args.source.now 0 c.args.tokens.now)
+    (ended c.args.source.now c.args.tokens.now c.requires.ended)
+    c.begin-cursor.result.1 c.begin-cursor.ensures.deep c.begin-cursor.result.0 c.begin-cursor.ensures.given
+    c.read_whole_block-read.result c.read_whole_block-read.new.cursor c.read_whole_block-read.ensures
+    c.left-given.result c.left.result c.left-given.ensures c.left.ensures c.settle.result c.settle.ensures

@@ -1,7 +1,0 @@
-use Rattle.std.proofs.Common.{◌∙◌, sym, ap, length}
-use Rattle.qc_text.specs.declared.cursor.Stop.TheVariants.{At}
-use Rattle.qc_text.proofs.Lexemes.{length-lexemes}
-use Rattle.qc_text.proofs.cursor.Cursor.stop.Goals as goal
-
-pub returns : goal.returns
-returns c = ap At (sym (length-lexemes _ _ _ _) ∙ ap length c.self.view_is)

@@ -1,5 +1,0 @@
-use Rattle.qc_text.proofs.Decimals.{as_text_respells}
-use Rattle.qc_text.proofs.spacing.printed_tokens_are_tokens.Goals as goal
-
-pub returns : goal.returns
-returns c = as_text_respells

@@ -1,0 +1,2 @@
+-- What the private parts of the scanner answer.
+pub mod Scanning

@@ -1,0 +1,12 @@
+pub mod Facts
+pub mod Law
+pub mod Names
+pub mod Sound
+pub mod Terms
+pub mod Tiles
+pub use Rattle.qc_words.specs.Operators
+pub use Rattle.qc_words.specs.Width
+pub use Rattle.qc_terms.specs.Tree
+pub use Rattle.qc_terms.specs.Typing
+pub use Rattle.qc_descr.specs.Description
+pub use Rattle.qc_descr.specs.Valid

@@ -1,0 +1,23 @@
+-- Symbol tables of spaces, and of functions and named effects while they are declared.
+use Rattle.std.specs.Prelude.{ℕ, ◌≡◌, ◌<◌, ◌≤◌, ◌^◌, All, List, length, map, take, slice_get, Some}
+use Rattle.std.specs.List.{flat_map}
+use Rattle.qc_names.specs.Tables.{IsIndexOf}
+use Rattle.qc_lrtl.specs.declared.syntax.Item.{Item}
+use Rattle.qc_widths.specs.declared.facts.SpaceFacts.{SpaceFacts}
+use Rattle.qc_widths.specs.Declarations.{function_name, function_items}
+
+-- The spaces have their places in a table. The place of each and the number of each of its cells fit their types.
+pub record HasTable (spaces : List SpaceFacts) (es : List (List ℕ × ℕ)) : Type 0 where
+  pub index : IsIndexOf (map (λ s. s.name) spaces) es
+  pub few : length spaces < 2 ^ 32
+  pub small : All (λ s. s.cells ≤ 2 ^ 64) spaces
+
+-- The functions and named effects have their numbers in a table.
+pub record AreNumbered (items : List Item) (es : List (List ℕ × ℕ)) : Type 0 where
+  pub index : IsIndexOf (map (λ n. n.text) (flat_map function_name items)) es
+  pub count : length (flat_map function_name items) ≡ length items
+
+-- The first items, so many, have their functions and named effects at these places, and their names in a table.
+pub record HasFirst (items : List Item) (count : ℕ) (places : List ℕ) (es : List (List ℕ × ℕ)) : Type 0 where
+  pub at : map (slice_get items) places ≡ map Some (function_items (take count items))
+  pub numbered : AreNumbered (function_items (take count items)) es
