@@ -12,7 +12,7 @@ use Rattle.qc_descr.specs.declared.description.Description.{Description}
 use Rattle.qc_descr.specs.declared.faults.DescrFault.{DescrFault}
 use Rattle.qc_descr.specs.Making.{description_of, fault_of}
 use Rattle.qc_widths.specs.declared.machine.Machine.{Machine}
-use Rattle.qc_widths.specs.Faults.{reported}
+use Rattle.qc_facts.specs.Faults.{reported}
 use Rattle.qc_widths.specs.Machine.{machine_of}
 use Rattle.qc_join.specs.declared.faults.JoinEnd.TheVariants as joined
 use Rattle.qc_join.specs.declared.faults.JoinFault.{JoinFault}

@@ -3,7 +3,7 @@ use Rattle.std.proofs.Common.{◌≡◌, ◌<◌, ◌≤◌, ◌+◌, ◌⊎◌,
 use Rattle.std.specs.Prelude.{◌≢◌, Option, None, Some, Result, Ok, Err, All}
 use Rattle.std.specs.Int.{to_le_bytes, w32}
 use Rattle.std.specs.Option.{option_map}
-use Rattle.std.proofs.lemmas.Bool.{cases_lt}
+use Rattle.std.proofs.lemmas.Bool.{and_parts, cases_lt}
 use Rattle.std.proofs.lemmas.List.Elements.{All-head, All-nil, All-push, All-tail}
 use Rattle.qc_widths.specs.TextFaults.{faults_of}
 use Rattle.qc_grammar.specs.declared.answers.ReadTextFault.{ReadTextFault}
@@ -27,7 +27,6 @@ use Rattle.qc_grammar.specs.Law.Ended.{file_ended}
 use Rattle.qc_grammar.specs.Law.Exactness.{Exact, Found}
 use Rattle.qc_grammar.specs.Law.Fuel.{exact}
 use Rattle.qc_grammar.specs.Law.OneAnswer.{answers}
-use Rattle.qc_grammar.specs.Law.Tests.{both_true}
 use Rattle.qc_grammar.specs.Lexeme.{Lexeme, lexemes, Vocabulary}
 use Rattle.qc_text.specs.Pieces.{AreCut, AreTokens, IsBadByte, IsFirst, IsPieceText, Piece, place_after, token_at, tokens_of}
 use Rattle.qc_grammar.specs.Reading.{Read, reads}
@@ -41,9 +40,9 @@ use Rattle.qc_descr.specs.declared.description.Description.{Description}
 use Rattle.qc_descr.specs.declared.faults.DescrFault.{DescrFault}
 use Rattle.qc_descr.specs.Loading.{FitsMachine}
 use Rattle.qc_descr.specs.Making.{description_of, fault_of}
-use Rattle.qc_widths.specs.declared.faults.WidthFault.{WidthFault}
+use Rattle.qc_facts.specs.declared.faults.WidthFault.{WidthFault}
 use Rattle.qc_widths.specs.declared.machine.Machine.{Machine}
-use Rattle.qc_widths.specs.Faults.{reported}
+use Rattle.qc_facts.specs.Faults.{reported}
 use Rattle.qc_widths.specs.Machine.{machine_of}
 use Rattle.qc_join.specs.declared.faults.JoinEnd.TheVariants as joined
 use Rattle.qc_join.specs.declared.faults.JoinFault.{JoinFault}
@@ -170,7 +169,7 @@ module _ {I : Type 0} {E : I → Type 0} (s : grammar.Syntax I E) {A : Type 0} (
   answer_read : (tokens : List Lexeme) → EndsText tokens → (read : Read A) → reads s (text g) (cut (first_too_deep 0 tokens) tokens) ≡ read → HasAnswer tokens
   answer_read tokens ends (Ok x) e =
       let given = cut (first_too_deep 0 tokens) tokens in
-      let clean : is_clean s (text g) ≡ true = (both_true readable.start).0 in
+      let clean : is_clean s (text g) ≡ true = (and_parts _ _ readable.start).0 in
       let found : Found s (text g) (reads s (text g)) given x.0 x.1 = subst (Exact s (text g) (reads s (text g)) given) e (exact s readable.rules (text g) clean given) in
       answer_settled tokens ends (Ok x.0) x.1 (e, omega (arith, ap length found.split, length-append found.front x.1)) (λ no. cc)
   answer_read tokens ends (Err left) e = answer_settled tokens ends (Err (At left)) [] e (λ no. cc)

@@ -3,6 +3,7 @@ pub mod Completeness
 pub mod Endings
 pub mod Exactness
 pub mod Leaving
+pub mod NamedFiles
 pub mod ProcessRuns
 pub mod Putting
 pub mod Readings

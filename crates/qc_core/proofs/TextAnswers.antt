@@ -1,6 +1,7 @@
 -- A file has at most one answer as a text of a grammar.
 use Rattle.std.proofs.Common.{◌≡◌, ℕ, zero, suc, true, List, [], length, refl, sym, ap, subst, ◌∙◌, arith, length-append}
 use Rattle.std.specs.Prelude.{Option, None, Some, Result, Ok, Err}
+use Rattle.std.proofs.lemmas.Bool.{and_parts}
 use Rattle.qc_grammar.specs.declared.answers.ReadTextFault.{ReadTextFault}
 use Rattle.qc_grammar.specs.declared.answers.ReadTextFault.TheVariants as text_fault
 use Rattle.qc_grammar.specs.declared.cursor.ReadError.{ReadError}
@@ -20,7 +21,6 @@ use Rattle.qc_grammar.specs.Law.Ended.{file_ended}
 use Rattle.qc_grammar.specs.Law.Exactness.{Exact, Found}
 use Rattle.qc_grammar.specs.Law.Fuel.{exact}
 use Rattle.qc_grammar.specs.Law.OneAnswer.{answers}
-use Rattle.qc_grammar.specs.Law.Tests.{both_true}
 use Rattle.qc_grammar.specs.Lexeme.{Lexeme, lexemes, Vocabulary}
 use Rattle.qc_text.specs.Pieces.{AreTokens, IsBadByte}
 use Rattle.qc_grammar.specs.Reading.{Read, reads}
@@ -67,7 +67,7 @@ module _ {I : Type 0} {E : I → Type 0} (s : grammar.Syntax I E) {A : Type 0} (
   by_reading : (tokens : List Lexeme) → EndsText tokens → (read : Read A) → reads s (text g) (cut (first_too_deep 0 tokens) tokens) ≡ read → (a b : Result A ReadError) → IsAnswer s g tokens a → IsAnswer s g tokens b → a ≡ b
   by_reading tokens ends (Ok x) e =
       let given = cut (first_too_deep 0 tokens) tokens in
-      let clean : is_clean s (text g) ≡ true = (both_true readable.start).0 in
+      let clean : is_clean s (text g) ≡ true = (and_parts _ _ readable.start).0 in
       let found : Found s (text g) (reads s (text g)) given x.0 x.1 = subst (Exact s (text g) (reads s (text g)) given) e (exact s readable.rules (text g) clean given) in
       by_settled tokens ends (Ok x.0) x.1 (e, omega (arith, ap length found.split, length-append found.front x.1)) (λ no. cc)
   by_reading tokens ends (Err left) e = by_settled tokens ends (Err (At left)) [] e (λ no. cc)

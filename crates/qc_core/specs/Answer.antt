@@ -1,9 +1,9 @@
 -- The answers of the program: which one the words and the files ask for, and what each leaves.
-use Rattle.std.specs.Prelude.{ℕ, ◌≡◌, ◌⊎◌, List}
+use Rattle.std.specs.Prelude.{ℕ, ◌≡◌, ◌≤◌, ◌⊎◌, List}
 use Rattle.qc_outside.specs.Files.{Files}
 use Rattle.qc_command.specs.declared.words.Command.{Command}
 use Rattle.qc_command.specs.declared.words.Command.TheVariants.{Check, Compile, Run}
-use Rattle.qc_command.specs.Command.{IsCommandLine, IsUsage}
+use Rattle.qc_command.specs.Command.{IsCommandLine, IsUsage, file_count}
 use Rattle.qc_core.specs.declared.answer.Fault.{Fault}
 use Rattle.qc_core.specs.declared.answer.Status.{Status}
 use Rattle.qc_core.specs.declared.answer.Status.TheVariants.{Usage}
@@ -18,6 +18,11 @@ abbrev pub task_of : Command → List (List ℕ) → Task
 task_of Check names = check_task names
 task_of Compile names = compile_task names
 task_of (Run steps) names = run_task names steps
+
+-- the command names the file of this number, and doesn't read it
+abbrev pub NamesUnread : Command → List (List ℕ) → ℕ → Type 0
+NamesUnread command names file =
+    (1 ≤ file) × (file ≤ file_count command) × ((task_of command names).reading.Reads file → ⊥)
 
 -- what the answer to a command leaves
 abbrev pub CommandLeaves : Command → List (List ℕ) → Outside → Outside → Status → Type 0

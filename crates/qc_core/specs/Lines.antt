@@ -10,8 +10,8 @@ use Rattle.qc_descr.specs.declared.faults.DescrFault.{DescrFault}
 use Rattle.qc_descr.specs.declared.faults.DescrFault.TheVariants.{Uncovered, Overlap, FieldRange, BadLayout}
 use Rattle.qc_descr.specs.declared.faults.Part.{Part}
 use Rattle.qc_descr.specs.declared.faults.Part.TheVariants as part
-use Rattle.qc_widths.specs.declared.faults.WidthFault.{WidthFault}
-use Rattle.qc_widths.specs.declared.faults.WidthFault.TheVariants as width
+use Rattle.qc_facts.specs.declared.faults.WidthFault.{WidthFault}
+use Rattle.qc_facts.specs.declared.faults.WidthFault.TheVariants as width
 use Rattle.qc_join.specs.declared.faults.JoinFault.{JoinFault}
 use Rattle.qc_join.specs.declared.faults.JoinFault.TheVariants as join
 use Rattle.qc_core.specs.declared.answer.Fault.{Fault}

@@ -11,9 +11,9 @@ use Rattle.qc_sled.specs.declared.syntax.RawCoding.{RawCoding}
 use Rattle.qc_sled.specs.Sled as sled
 use Rattle.qc_descr.specs.declared.description.Description.{Description}
 use Rattle.qc_descr.specs.Valid.{IsValid}
-use Rattle.qc_widths.specs.declared.faults.WidthFault.{WidthFault}
+use Rattle.qc_facts.specs.declared.faults.WidthFault.{WidthFault}
 use Rattle.qc_widths.specs.declared.machine.Machine.{Machine}
-use Rattle.qc_widths.specs.Faults.{reported}
+use Rattle.qc_facts.specs.Faults.{reported}
 use Rattle.qc_widths.specs.Machine.{machine_of}
 use Rattle.qc_join.specs.declared.faults.JoinEnd.TheVariants as joined
 use Rattle.qc_join.specs.declared.faults.JoinFault.{JoinFault}

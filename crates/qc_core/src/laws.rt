@@ -1,18 +1,20 @@
 //! Facts about the definitions. A caller of one of these functions has its `ensures`; no code runs.
-ghost use Rattle.std.specs.Prelude.{◌≡◌, ℕ, List, Some};
+ghost use Rattle.std.specs.Prelude.{◌≡◌, ◌≤◌, ℕ, List, Some, IfSome};
+ghost use Rattle.qc_command.specs.Command.{file_count};
 ghost use Rattle.qc_command.specs.declared.words.Command.{Command};
 ghost use Rattle.qc_constants.specs.declared.program.ConstantProgram.{ConstantProgram};
 ghost use Rattle.qc_descr.specs.declared.description.Description.{Description};
 ghost use Rattle.qc_descr.specs.Names.{HasNames};
 ghost use Rattle.qc_outside.specs.FaultCounts.{Rose};
-ghost use Rattle.qc_outside.specs.Files.{Files};
+ghost use Rattle.qc_outside.specs.Files.{Files, name_of};
 ghost use Rattle.qc_core.specs.declared.answer.Fault.{Fault};
 ghost use Rattle.qc_core.specs.declared.answer.Status.{Status};
-ghost use Rattle.qc_core.specs.Answer.{CommandLeaves, IsCommandRead, IsCommandRefused, task_of};
+ghost use Rattle.qc_core.specs.Answer.{CommandLeaves, IsCommandRead, IsCommandRefused, NamesUnread, task_of};
 ghost use Rattle.qc_core.specs.Compilation.{compile_reading};
 ghost use Rattle.qc_core.specs.Inner.LowerLaws.{LowerLaws};
 ghost use Rattle.qc_core.specs.Leaves.{IsGoodStatus, IsRefusalStatus, Outside};
 ghost use Rattle.qc_core.specs.Runs.{Setting, machine_process, run_reading};
+ghost use Rattle.qc_core.specs.Task.{Product};
 ghost use Rattle.qc_descr.specs.Step.{Progress, RunsTo, observation_of};
 ghost use Rattle.qc_descr.specs.Valid.{IsValid};
 ghost use Rattle.qc_terms.specs.Observation.{Observation};
@@ -98,6 +100,25 @@ pub fn read_unless_refused()
     lower_laws();
     faultless_files_are_images();
 }
+
+/// A file that a command reads is one of those that it names. One that it names and doesn't read is the one that it
+/// writes, where it makes something, and it writes no other.
+pub fn commands_name_their_files()
+    ensures read { (command : Command) (names : List (List ℕ)) (file : ℕ) →
+        (task_of command names).reading.Reads file → (1 ≤ file) × (file ≤ file_count command) }
+    ensures written { (command : Command) (names : List (List ℕ)) (file : ℕ) (x : (task_of command names).Input)
+        (product : Product) → NamesUnread command names file → (task_of command names).Makes x product →
+        (bytes : List ℕ) × (product.file ≡ Some (name_of names file, bytes)) }
+    ensures no_other { (command : Command) (names : List (List ℕ)) (x : (task_of command names).Input)
+        (product : Product) → (task_of command names).Makes x product →
+        IfSome product.file (λ written. (file : ℕ) × NamesUnread command names file × (written.0 ≡ name_of names file)) }
+{}
+
+/// What a command makes something of it refuses for no fault.
+pub fn made_is_not_refused()
+    ensures { (command : Command) (names : List (List ℕ)) (x : (task_of command names).Input) (product : Product)
+        (fault : Fault) → (task_of command names).Makes x product → (task_of command names).MayRefuse x fault → ⊥ }
+{}
 
 /// What the machine shows as a process is what it shows in the runs of which the agreement of an image with its program
 /// speaks.

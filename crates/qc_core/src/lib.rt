@@ -16,8 +16,9 @@ mod simulation;
 pub use answer::{Fault, Status};
 pub use command::quick;
 pub use laws::{
-    faultless_commands, machine_runs, one_compilation, one_description, one_refusal, one_setting,
-    read_is_not_refused, read_unless_refused, refused_commands, valid_descriptions_have_names,
+    commands_name_their_files, faultless_commands, machine_runs, made_is_not_refused,
+    one_compilation, one_description, one_refusal, one_setting, read_is_not_refused,
+    read_unless_refused, refused_commands, valid_descriptions_have_names,
 };
 pub use qc_constants::{ConstantProgram, compile};
 pub use qc_join::JoinFault;

@@ -25,7 +25,7 @@ use Rattle.qc_descr.specs.Description.{AreInRange, IsInRange, counts_of, kinds_o
 use Rattle.qc_descr.specs.Encoding.{byte_value, IsCodedBy}
 use Rattle.qc_descr.specs.Reach.{IsReached, coded_operands, coded_value}
 use Rattle.qc_descr.specs.Valid.{HasLayout, HasSize, IsCovered, IsWithinLimits, is_within}
-use Rattle.qc_descr.specs.Law.Bits.{EachBit, no_piece_in_bytes, piece_in_bytes}
+use Rattle.qc_descr.specs.Law.Bits.{EachBit, bit_value-lt, no_piece_in_bytes, piece_in_bytes}
 use Rattle.qc_descr.specs.Law.Operands.{SizedAt, coded_at, in_range_at, length-in_range, sized_at, word_bits}
 use Rattle.qc_decode.specs.Inner.OperandsOfBytes.{operand_in_byte, operand_in_bytes, piece_value}
 
@@ -86,11 +86,6 @@ also a v true true = omega arith
 also a v true false = omega arith
 also a v false true = omega arith
 also a v false false = omega arith
-
-pub bit_value-lt : (operands : List ℕ) (b : Bit) → bit_value operands b < 2
-bit_value-lt operands (Fixed true) = omega arith
-bit_value-lt operands (Fixed false) = omega arith
-bit_value-lt operands (Piece operand bit) = bit_at-lt (slice_index operands operand) bit
 
 -- the bits of a byte behind its first one
 pub higher_bits : (operands : List ℕ) (byte : ℕ) (bits : List Bit) → 1 ≤ length bits → byte ≡ byte_value operands bits →

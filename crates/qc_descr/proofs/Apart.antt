@@ -2,8 +2,6 @@
 use Rattle.std.proofs.Common.{◌≡◌, ℕ, zero, suc, ◌+◌, ◌*◌, ◌<◌, List, [], ◌∷◌, ◌++◌, map, Bool, true, false, Some, subst, arith, inl, inr}
 use Rattle.std.specs.List.{slice_get, list_all}
 use Rattle.std.proofs.lemmas.Bool.{and_parts, or_cases}
-use Rattle.std.proofs.lemmas.Nat.Bits.{bit_at-lt}
-use Rattle.std.specs.Prelude.{slice_index}
 use Rattle.qc_terms.specs.declared.state.Order.{Order}
 use Rattle.qc_descr.specs.declared.coding.Bit.{Bit}
 use Rattle.qc_descr.specs.declared.coding.Bit.TheVariants.{Fixed, Piece}
@@ -11,11 +9,7 @@ use Rattle.qc_descr.specs.declared.coding.Coding.{Coding}
 use Rattle.qc_descr.specs.Coding.{bit_value, bits_differ, bytes_differ, differs_at, memory_bytes}
 use Rattle.qc_descr.specs.Encoding.{byte_value}
 use Rattle.qc_descr.specs.Valid.{all_differ}
-
-pub bit_value-lt : (operands : List ℕ) (b : Bit) → bit_value operands b < 2
-bit_value-lt operands (Fixed true) = omega arith
-bit_value-lt operands (Fixed false) = omega arith
-bit_value-lt operands (Piece operand bit) = bit_at-lt (slice_index operands operand) bit
+use Rattle.qc_descr.specs.Law.Bits.{bit_value-lt}
 
 -- equal bytes have equal first bits and equal others
 pub byte_parts : (xs ys : List ℕ) (x y : Bit) (p q : List Bit) → byte_value xs (x ∷ p) ≡ byte_value ys (y ∷ q) →

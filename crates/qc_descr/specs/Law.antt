@@ -1,5 +1,5 @@
 -- Laws of codings, which crates above may cite.
--- Bits: of bits in bytes: `below_of_all`, `piece_in_bytes`, `no_piece_in_bytes`, `any_counted`.
+-- Bits: of bits in bytes: `bit_value-lt`, `below_of_all`, `piece_in_bytes`, `no_piece_in_bytes`, `any_counted`.
 -- Places: where the bytes of a token stand: `StandsAt`, `found`, `passed`, `little_byte`, `big_byte`, `token_size`,
 -- `length-token_bytes`.
 -- CodedBytes: how many bytes an instruction has, and each of them: `covered_at`, `valid_at`, `few_bits`, `few_operands`,

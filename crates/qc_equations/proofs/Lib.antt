@@ -1,4 +1,3 @@
 pub mod Matches
 pub mod RowValues
 pub mod Sides
-pub mod Values

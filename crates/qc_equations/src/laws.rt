@@ -1,11 +1,7 @@
 //! That the laws of equations hold. Each function here does nothing: its contract is the law.
 
-ghost use Rattle.std.specs.Prelude.{ℕ, ◌≡◌, ◌<◌, ◌^◌, ◌↔◌, List, IfSome, Some};
-ghost use Rattle.qc_terms.specs.declared.state.State.{State};
-ghost use Rattle.qc_terms.specs.State.{IsState, context_of};
-ghost use Rattle.qc_terms.specs.Tree.{Tree, width_of};
-ghost use Rattle.qc_terms.specs.Typing.{IsTyped, OperandsFit};
-ghost use Rattle.qc_terms.specs.Value.{value_of};
+ghost use Rattle.std.specs.Prelude.{ℕ, ◌≡◌, ◌↔◌, List, Some};
+ghost use Rattle.qc_terms.specs.Tree.{Tree};
 ghost use Rattle.qc_equations.specs.declared.names.Law.{Law};
 ghost use Rattle.qc_equations.specs.Alike.{AreAlike};
 ghost use Rattle.qc_equations.specs.Examples.{AllHold, on_comparisons, on_constants, on_literals, on_operators, on_places, on_slices};
@@ -36,15 +32,6 @@ fn word_laws()
     slices_make_the_word();
 }
 
-/// The value of a typed term is a word, also in a state whose input has been read whole.
-pub fn values_are_words()
-    ensures { (s : State) (operands : List ℕ) (after : ℕ) → IsState s → after < 2 ^ s.facts.word → (t : Tree) →
-        IsTyped (context_of s) t → OperandsFit (context_of s) operands t →
-        IfSome (value_of t operands after s) (λ v. v < 2 ^ width_of t) }
-{
-    typed_values_are_words();
-}
-
 /// A law gives one term for another exactly where both are the trees of its two sides over the same parts.
 pub fn laws_turn_left_into_right()
     ensures { (law : Law) (t u : Tree) → (gives law t ≡ Some u) ↔ TurnsInto law t u }
@@ -55,7 +42,7 @@ pub fn laws_keep_terms_alike()
     ensures { (law : Law) (t u : Tree) → gives law t ≡ Some u → AreAlike t u }
 {
     word_laws();
-    values_are_words();
+    typed_values_are_words();
 }
 
 /// A law that is used at a place of a term gives a term alike, and so do laws at places one after another.
@@ -64,7 +51,7 @@ pub fn steps_keep_terms_alike()
     ensures chained { (steps : List (Law × List ℕ)) (t u : Tree) → after_steps steps t ≡ Some u → AreAlike t u }
 {
     word_laws();
-    values_are_words();
+    typed_values_are_words();
 }
 
 /// Each law matches a term of its form, and none that differs from the form in one thing.

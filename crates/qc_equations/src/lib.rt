@@ -11,6 +11,6 @@ mod names;
 pub use form::{Left, Literal, Operator};
 pub use laws::{
     each_law_matches_its_form, laws_keep_terms_alike, laws_turn_left_into_right,
-    steps_keep_terms_alike, values_are_words,
+    steps_keep_terms_alike,
 };
 pub use names::Law;

@@ -1,5 +1,7 @@
 -- Numbers in decimal are read as themselves.
-use Rattle.std.proofs.Common.{◌≡◌, ◌≤◌, ◌+◌, ◌-◌, ◌*◌, ◌^◌, ◌∙◌, ◌&&◌, ℕ, min, Bool, true, false, List, [], ◌∷◌, inl, refl, ap, arith, rules, nat_eq, if◌then◌else◌, drop}
+use Rattle.std.proofs.Common.{◌≡◌, ◌≤◌, ◌+◌, ◌-◌, ◌*◌, ◌^◌, ◌∙◌, ℕ, min, true, false, List, [], ◌∷◌, inl, refl, ap, arith, rules, nat_eq, if◌then◌else◌, drop}
+use Rattle.std.proofs.Math.Bool.{and-false}
+use Rattle.std.proofs.lemmas.Bool.{and_parts}
 use Rattle.std.proofs.lemmas.Bool.Decides.{nat_tests}
 use Rattle.std.proofs.lemmas.Fmt.{decimal_is_IsNumeral_wide}
 use Rattle.std.proofs.lemmas.Str.Parse.{IsNumeralModel, numerals_by_fold}
@@ -23,10 +25,6 @@ own : IsNumeralModel (λ ds. list_all is_ascii_digit ds ≡ true) (on_ten 0)
 unfolding on_ten
 own = numerals_by_fold _ (search rules) on_ten (search rules)
 
-both_true : (a b : Bool) → (a && b) ≡ true → (a ≡ true) × (b ≡ true)
-both_true true b e = (refl, e)
-both_true false b e = cc e
-
 value_of_digit : (b : ℕ) → is_ascii_digit b ≡ true → digit_value b ≡ b - 48
 value_of_digit b e = grind (arith, nat_tests)
 
@@ -34,24 +32,20 @@ same_value : (n : ℕ) (digits : List ℕ) → list_all is_ascii_digit digits �
 unfolding on_ten
 same_value n [] all = refl
 same_value n (digit ∷ digits) all =
-    let both = both_true (is_ascii_digit digit) (list_all is_ascii_digit digits) all in
+    let both = and_parts (is_ascii_digit digit) (list_all is_ascii_digit digits) all in
     ap (λ v. number_on 10 (10 * n + v) digits) (value_of_digit digit both.0)
     ∙ same_value (10 * n + (digit - 48)) digits both.1
 
 no_x : (b : ℕ) → is_ascii_digit b ≡ true → nat_eq 120 b ≡ false
 no_x b e = grind (arith, nat_tests)
 
-and_false : (b : Bool) → (b && false) ≡ false
-and_false true = refl
-and_false false = refl
-
 plain : (digits : List ℕ) → list_all is_ascii_digit digits ≡ true → starts_with nat_eq digits (codes "0x") ≡ false
 plain [] all = refl
-plain (a ∷ []) all = and_false (nat_eq 48 a)
+plain (a ∷ []) all = and-false (nat_eq 48 a)
 plain (a ∷ b ∷ digits) all =
-    let both = both_true (is_ascii_digit a) (list_all is_ascii_digit (b ∷ digits)) all in
-    let next = both_true (is_ascii_digit b) (list_all is_ascii_digit digits) both.1 in
-    rw (no_x b next.0) (and_false (nat_eq 48 a))
+    let both = and_parts (is_ascii_digit a) (list_all is_ascii_digit (b ∷ digits)) all in
+    let next = and_parts (is_ascii_digit b) (list_all is_ascii_digit digits) both.1 in
+    rw (no_x b next.0) (and-false (nat_eq 48 a))
 
 digits_of_decimal : (n : ℕ) → n ≤ 2 ^ 64 → list_all is_ascii_digit (decimal n) ≡ true
 digits_of_decimal n small = own.from (decimal n) (decimal_is_IsNumeral_wide n (omega (arith, small))).0.1

@@ -1,9 +1,13 @@
 -- What reading a list gives, by what reading an item gives.
-use Rattle.std.specs.Prelude.{ℕ, zero, suc, List, [], ◌∷◌, length, Ok, Err}
+use Rattle.std.specs.Prelude.{ℕ, zero, suc, ◌≡◌, ◌<◌, List, [], ◌∷◌, length, Ok, Err}
 use Rattle.qc_grammar.specs.declared.lists.ItemOrLast.{ItemOrLast}
 use Rattle.qc_grammar.specs.declared.lists.ItemOrLast.TheVariants.{Item, Last}
 use Rattle.qc_grammar.specs.Lexeme.{Class, Word, Lexeme}
 use Rattle.qc_grammar.specs.Reading.{Read, then_read, read_as, read_both, read_word, repeated}
+
+-- An item has a token.
+abbrev pub Shortens : {A : Type 0} → (List Lexeme → Read A) → Type 0
+Shortens {A} read = (tokens : List Lexeme) (x : A × List Lexeme) → read tokens ≡ Ok x → length x.1 < length tokens
 
 -- as many as come, while the next token is of one of the classes
 abbrev pub many : {A : Type 0} → (List Lexeme → Read A) → List Class → List Lexeme → Read (List A)

@@ -18,6 +18,7 @@ pub use classes::{ClassedToken, Vocabulary, is_reserved};
 pub use cursor::{Cursor, Ident, Number, ReadError, Stop};
 pub use laws::printed_tokens_are_tokens;
 pub use lists::{
-    Beginning, ItemOrLast, Phrase, UntilLast, read_many, read_separated, read_until_last,
+    Beginning, ItemOrLast, Phrase, UntilLast, read_many, read_many_by, read_others, read_others_by,
+    read_separated, read_separated_by, read_until_last,
 };
 pub use printer::{Printed, put, put_number, write_many, write_separated};

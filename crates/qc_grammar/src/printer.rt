@@ -4,7 +4,7 @@ ghost use Rattle.std.specs.List.{flat_map};
 ghost use Rattle.qc_text.specs.PrintedWords.{Words, spaced};
 ghost use Rattle.qc_grammar.specs.Printing.{digits, separated_words};
 
-use crate::cursor::Number;
+use crate::cursor::{Ident, Number};
 use std::alloc::{AllocError, Global};
 
 /// Writes a word. After an `Err` the output is as before, or the word is added and no blank.
@@ -35,6 +35,16 @@ pub trait Printed: Sized {
     /// Writes the words.
     fn write(&self, alloc: Global, out: &mut Vec<u8>) -> Result<(), AllocError>
         ensures { OnOk result (out.new.items ≡ out.old.items ++ spaced (words self.now)) };
+}
+
+impl Printed for Ident {
+    ghost use Rattle.std.specs.Prelude.{◌∷◌, []};
+
+    ghost words = { λ name. name.text ∷ [] };
+
+    fn write(&self, _alloc: Global, out: &mut Vec<u8>) -> Result<(), AllocError> {
+        put(out, self.text.as_slice())
+    }
 }
 
 /// Writes each, one after another.

@@ -38,15 +38,15 @@ pub within : (list : List Part) (at : ℕ) (p : Pattern) (rest : List Part) → 
 within list at p rest e =
     elim (cases_lt at (length list)) [ inl below ↦ below | inr past ↦ absurd (empty p rest (sym (drop_all at list past) ∙ e)) ]
 
-is_first : (p : Pattern) (rest ws : List Part) → part.First ∷ ws ≡ spell p ++ rest → (p ≡ A) × (ws ≡ rest)
+pub is_first : (p : Pattern) (rest ws : List Part) → part.First ∷ ws ≡ spell p ++ rest → (p ≡ A) × (ws ≡ rest)
 is_first A rest ws h = (refl, cc h)
 is_first _ rest ws h = absurd (cc h)
 
-is_second : (p : Pattern) (rest ws : List Part) → part.Second ∷ ws ≡ spell p ++ rest → (p ≡ B) × (ws ≡ rest)
+pub is_second : (p : Pattern) (rest ws : List Part) → part.Second ∷ ws ≡ spell p ++ rest → (p ≡ B) × (ws ≡ rest)
 is_second B rest ws h = (refl, cc h)
 is_second _ rest ws h = absurd (cc h)
 
-is_third : (p : Pattern) (rest ws : List Part) → part.Third ∷ ws ≡ spell p ++ rest → (p ≡ C) × (ws ≡ rest)
+pub is_third : (p : Pattern) (rest ws : List Part) → part.Third ∷ ws ≡ spell p ++ rest → (p ≡ C) × (ws ≡ rest)
 is_third C rest ws h = (refl, cc h)
 is_third _ rest ws h = absurd (cc h)
 
@@ -91,29 +91,15 @@ still_there old new ids there kept = record {
 
 -- ---- leaves
 
-pub made_first : (terms : List Tree) (ids : Ids) (list : List Part) (at : ℕ) (d : Part) → AreThere terms ids → at < length list →
-    get_or list at d ≡ part.First → (p : Pattern) (rest : List Part) → drop at list ≡ spell p ++ rest →
-    IsMade terms p (parts_at terms ids) ids.a × (drop (at + 1) list ≡ rest)
-made_first terms ids list at d there below is p rest e =
-    let s = is_first p rest (drop (at + 1) list) (sym (head list at d part.First below is) ∙ e) in
-    let P : Pattern → Type 0 = λ q. IsMade terms q (parts_at terms ids) ids.a in
-    (subst P (sym s.0) (record { there = there.a; term = refl }), s.1)
-
-pub made_second : (terms : List Tree) (ids : Ids) (list : List Part) (at : ℕ) (d : Part) → AreThere terms ids → at < length list →
-    get_or list at d ≡ part.Second → (p : Pattern) (rest : List Part) → drop at list ≡ spell p ++ rest →
-    IsMade terms p (parts_at terms ids) ids.b × (drop (at + 1) list ≡ rest)
-made_second terms ids list at d there below is p rest e =
-    let s = is_second p rest (drop (at + 1) list) (sym (head list at d part.Second below is) ∙ e) in
-    let P : Pattern → Type 0 = λ q. IsMade terms q (parts_at terms ids) ids.b in
-    (subst P (sym s.0) (record { there = there.b; term = refl }), s.1)
-
-pub made_third : (terms : List Tree) (ids : Ids) (list : List Part) (at : ℕ) (d : Part) → AreThere terms ids → at < length list →
-    get_or list at d ≡ part.Third → (p : Pattern) (rest : List Part) → drop at list ≡ spell p ++ rest →
-    IsMade terms p (parts_at terms ids) ids.c × (drop (at + 1) list ≡ rest)
-made_third terms ids list at d there below is p rest e =
-    let s = is_third p rest (drop (at + 1) list) (sym (head list at d part.Third below is) ∙ e) in
-    let P : Pattern → Type 0 = λ q. IsMade terms q (parts_at terms ids) ids.c in
-    (subst P (sym s.0) (record { there = there.c; term = refl }), s.1)
+-- What was made of a pattern of one part is that of each pattern that is spelled with this part at the place.
+pub made_leaf : (terms : List Tree) (parts : Parts) (list : List Part) (at : ℕ) (d w : Part) (leaf : Pattern) (id : ℕ) →
+    ((p : Pattern) (rest ws : List Part) → w ∷ ws ≡ spell p ++ rest → (p ≡ leaf) × (ws ≡ rest)) → IsMade terms leaf parts id →
+    at < length list → get_or list at d ≡ w → (p : Pattern) (rest : List Part) → drop at list ≡ spell p ++ rest →
+    IsMade terms p parts id × (drop (at + 1) list ≡ rest)
+made_leaf terms parts list at d w leaf id only made below is p rest e =
+    let s = only p rest (drop (at + 1) list) (sym (head list at d w below is) ∙ e) in
+    let P : Pattern → Type 0 = λ q. IsMade terms q parts id in
+    (subst P (sym s.0) made, s.1)
 
 pub number_stands : (list : List Part) (at : ℕ) (d : Part) (literal : Literal) (parts : Parts) (word : ℕ) → at < length list →
     get_or list at d ≡ part.Number literal → Spells list at parts → word ≡ width_of parts.a →
@@ -129,13 +115,12 @@ pub made_number : (old new : List Tree) (list : List Part) (at : ℕ) (d : Part)
     at < length list → get_or list at d ≡ part.Number literal → word ≡ width_of parts.a → value ≡ literal_value literal word parts.size →
     width ≡ literal_width literal word parts.size → IsAdded old new (Number value width) id →
     (p : Pattern) (rest : List Part) → drop at list ≡ spell p ++ rest → IsMade new p parts id × (drop (at + 1) list ≡ rest)
-made_number old new list at d literal parts word value width id below is same value_is width_is added p rest e =
-    let s = is_number literal p rest (drop (at + 1) list) (sym (head list at d (part.Number literal) below is) ∙ e) in
+made_number old new list at d literal parts word value width id below is same value_is width_is added =
     let here = added_at old new (Number value width) id added in
     let term = here.1 ∙ ap (λ v. Number v width) value_is ∙ ap (λ w. Number (literal_value literal word parts.size) w) width_is
     ∙ ap (λ w. Number (literal_value literal w parts.size) (literal_width literal w parts.size)) same in
-    let P : Pattern → Type 0 = λ q. IsMade new q parts id in
-    (subst P (sym s.0) (record { there = here.0; term = term }), s.1)
+    made_leaf new parts list at d (part.Number literal) (Fixed literal) id (is_number literal) (record { there = here.0; term = term })
+    below is
 
 -- ---- an operator before one pattern
 

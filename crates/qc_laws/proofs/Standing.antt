@@ -9,7 +9,7 @@ use Rattle.qc_equations.specs.declared.names.Law.TheVariants.{Split8, Split12, S
 use Rattle.qc_equations.specs.Law.Found.{Within, found, suits-within}
 use Rattle.qc_equations.specs.Law.Widths.{gives-holds}
 use Rattle.qc_equations.specs.Matching.{parts_of}
-use Rattle.qc_equations.specs.Pattern.{Parts, fill}
+use Rattle.qc_equations.specs.Pattern.{Parts, Pattern, fill}
 use Rattle.qc_equations.specs.Table.{equation_of, parted, split}
 use Rattle.qc_equations.specs.Turning.{left_pattern}
 use Rattle.qc_laws.specs.Inner.Spelling.{AllHaveWords, CanStand}
@@ -21,27 +21,23 @@ split_words word size low high = search (rules, low, high)
 parted_words : (word size : ℕ) → IsWidth size → IsWidth (word - size) → AllHaveWords parted word size
 parted_words word size low high = search (rules, low, high)
 
-constant_words : (bits word size : ℕ) → IsWidth word → 1 ≤ bits → (size ≡ bits) × (bits < word) → IsWidth size × IsWidth (word - size)
-constant_words bits word size word_is some within = (
-  (omega (arith, within.0, within.1), omega (arith, within.0, within.1, word_is.1)),
-  (omega (arith, within.0, within.1), omega (arith, word_is.1)),
-)
+-- a constant is taken apart into words, where both parts have to be words
+constant_fits : (right : Pattern) → ((word size : ℕ) → IsWidth size → IsWidth (word - size) → AllHaveWords right word size) → (bits : ℕ)
+    (parts : Parts) → IsWidth (width_of parts.a) → parts.size ≤ 64 → (parts.size ≡ bits) × (bits < width_of parts.a) → 1 ≤ bits →
+    AllHaveWords right (width_of parts.a) parts.size
+constant_fits right words bits parts word size within some =
+    words (width_of parts.a) parts.size (omega (arith, within.0), size)
+    (omega (arith, within.0, within.1), omega (arith, word.1))
 
 words_fit : (law : Law) (parts : Parts) → IsWidth (width_of parts.a) → parts.size ≤ 64 →
     Within (equation_of law).left (width_of parts.a) parts.size → HasWidths (fill (left_pattern (equation_of law).left) parts) →
     AllHaveWords (equation_of law).right (width_of parts.a) parts.size
-words_fit Split8 parts word size within widths =
-    let it = constant_words 8 (width_of parts.a) parts.size word (omega arith) within in split_words (width_of parts.a) parts.size it.0 it.1
-words_fit Split12 parts word size within widths =
-    let it = constant_words 12 (width_of parts.a) parts.size word (omega arith) within in split_words (width_of parts.a) parts.size it.0 it.1
-words_fit Split16 parts word size within widths =
-    let it = constant_words 16 (width_of parts.a) parts.size word (omega arith) within in split_words (width_of parts.a) parts.size it.0 it.1
-words_fit Part8 parts word size within widths =
-    let it = constant_words 8 (width_of parts.a) parts.size word (omega arith) within in parted_words (width_of parts.a) parts.size it.0 it.1
-words_fit Part12 parts word size within widths =
-    let it = constant_words 12 (width_of parts.a) parts.size word (omega arith) within in parted_words (width_of parts.a) parts.size it.0 it.1
-words_fit Part16 parts word size within widths =
-    let it = constant_words 16 (width_of parts.a) parts.size word (omega arith) within in parted_words (width_of parts.a) parts.size it.0 it.1
+words_fit Split8 parts word size within widths = constant_fits split split_words 8 parts word size within (omega arith)
+words_fit Split12 parts word size within widths = constant_fits split split_words 12 parts word size within (omega arith)
+words_fit Split16 parts word size within widths = constant_fits split split_words 16 parts word size within (omega arith)
+words_fit Part8 parts word size within widths = constant_fits parted parted_words 8 parts word size within (omega arith)
+words_fit Part12 parts word size within widths = constant_fits parted parted_words 12 parts word size within (omega arith)
+words_fit Part16 parts word size within widths = constant_fits parted parted_words 16 parts word size within (omega arith)
 words_fit ZxCom parts word size within widths =
     let wide : IsWidth parts.size = (omega (arith, word.0, widths.1), size) in ((wide, tt), wide)
 words_fit AndZx parts word size within widths = (tt, ((within.0, size), tt))

@@ -4,8 +4,8 @@ ghost use Rattle.std.specs.Option.{option_map};
 ghost use Rattle.qc_equations.specs.declared.form.Left.TheVariants.{Constant};
 ghost use Rattle.qc_words.specs.Width.{IsWidth};
 ghost use Rattle.qc_pool.specs.Nodes.{term_at};
-ghost use Rattle.qc_laws.specs.Inner.Forms.{IsExtension, IsForm, IsOfWord, IsPlain};
-ghost use Rattle.qc_laws.specs.Inner.Ids.{AreThere, parts_at};
+ghost use Rattle.qc_laws.specs.Inner.Forms.{IsExtension, IsForm, IsOfWord, IsPlain, operands_of};
+ghost use Rattle.qc_laws.specs.Inner.Ids.{AreThere, BothThere, both_at, parts_at};
 ghost use Rattle.qc_equations.specs.Matching.{left_nested, low_bits, masked, one_operand, part, parts_of, right_nested, same_op, two_operands, wide_complement, with_literal};
 ghost use Rattle.qc_equations.specs.Pattern.{literal_value};
 
@@ -87,11 +87,11 @@ fn of_one(pool: &Pool, operator: Operator, id: TermId) -> Option<Ids>
     }
 }
 
-/// The parts of op(a, b).
-fn of_two(pool: &Pool, op: Op, id: TermId) -> Option<Ids>
+/// The operands of a term with this operator.
+fn operands(pool: &Pool, op: &Op, id: TermId) -> Option<(TermId, TermId)>
     requires id { id < length pool.now }
-    ensures parts { option_map (parts_at pool.now) result ≡ two_operands op (term_at pool.now id) }
-    ensures there { IfSome result (AreThere pool.now) }
+    ensures operands { option_map (both_at pool.now) result ≡ operands_of op.now (term_at pool.now id) }
+    ensures there { IfSome result (BothThere pool.now) }
 {
     match &pool.node(id) {
         Node::Bin {
@@ -99,11 +99,24 @@ fn of_two(pool: &Pool, op: Op, id: TermId) -> Option<Ids>
             left,
             right,
         } => {
-            let ids = three(pool, *left, *right, *left);
-            if same(found, &op) { Some(ids) } else { None }
+            if same(found, op) {
+                Some((*left, *right))
+            } else {
+                None
+            }
         }
         _ => None,
     }
+}
+
+/// The parts of op(a, b).
+fn of_two(pool: &Pool, op: Op, id: TermId) -> Option<Ids>
+    requires id { id < length pool.now }
+    ensures parts { option_map (parts_at pool.now) result ≡ two_operands op (term_at pool.now id) }
+    ensures there { IfSome result (AreThere pool.now) }
+{
+    let (a, b) = operands(pool, &op, id)?;
+    Some(three(pool, a, b, a))
 }
 
 /// The number of a literal without a size, in a word.
@@ -159,28 +172,9 @@ fn nested_left(pool: &Pool, op: Op, id: TermId) -> Option<Ids>
     ensures parts { option_map (parts_at pool.now) result ≡ left_nested op (term_at pool.now id) }
     ensures there { IfSome result (AreThere pool.now) }
 {
-    match &pool.node(id) {
-        Node::Bin {
-            op: outer,
-            left,
-            right,
-        } => match &pool.node(*left) {
-            Node::Bin {
-                op: inner,
-                left: a,
-                right: b,
-            } => {
-                let ids = three(pool, *a, *b, *right);
-                if same(outer, &op) && same(inner, &op) {
-                    Some(ids)
-                } else {
-                    None
-                }
-            }
-            _ => None,
-        },
-        _ => None,
-    }
+    let (left, c) = operands(pool, &op, id)?;
+    let (a, b) = operands(pool, &op, left)?;
+    Some(three(pool, a, b, c))
 }
 
 /// The parts of op(a, op(b, c)).
@@ -189,28 +183,9 @@ fn nested_right(pool: &Pool, op: Op, id: TermId) -> Option<Ids>
     ensures parts { option_map (parts_at pool.now) result ≡ right_nested op (term_at pool.now id) }
     ensures there { IfSome result (AreThere pool.now) }
 {
-    match &pool.node(id) {
-        Node::Bin {
-            op: outer,
-            left,
-            right,
-        } => match &pool.node(*right) {
-            Node::Bin {
-                op: inner,
-                left: b,
-                right: c,
-            } => {
-                let ids = three(pool, *left, *b, *c);
-                if same(outer, &op) && same(inner, &op) {
-                    Some(ids)
-                } else {
-                    None
-                }
-            }
-            _ => None,
-        },
-        _ => None,
-    }
+    let (a, right) = operands(pool, &op, id)?;
+    let (b, c) = operands(pool, &op, right)?;
+    Some(three(pool, a, b, c))
 }
 
 /// The part of the complement of one bit that is extended with zeros, and the wide width.

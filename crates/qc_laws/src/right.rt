@@ -21,9 +21,9 @@ pub(crate) enum Part {
     First,
     Second,
     Third,
-    Number { literal: Literal },
-    Un { operator: Operator },
-    Bin { op: Op },
+    Number(Literal),
+    Un(Operator),
+    Bin(Op),
 }
 
 /// The id of what was made of some parts, and the place of the part after them.
@@ -115,19 +115,19 @@ pub(crate) fn make(pool: &mut Pool, ids: &Ids, list: &[Part], at: usize) -> Resu
             id: ids.c,
             next: at + 1,
         }),
-        Part::Number { literal } => {
+        Part::Number(literal) => {
             let value = literal_number(literal, ids.word, ids.size);
             let width = literal_bits(literal, ids.word, ids.size);
             let id = pool.add(Node::Num { value, width })?;
             Ok(Made { id, next: at + 1 })
         }
-        Part::Un { operator } => {
+        Part::Un(operator) => {
             let arg = make(pool, ids, list, at + 1)?;
             let op = operator_of(operator, ids.word, ids.size);
             let id = pool.add(Node::Un { op, arg: arg.id })?;
             Ok(Made { id, next: arg.next })
         }
-        Part::Bin { op } => {
+        Part::Bin(op) => {
             let left = make(pool, ids, list, at + 1)?;
             let right = make(pool, ids, list, left.next)?;
             let id = pool.add(Node::Bin {

@@ -1,8 +1,8 @@
 -- A file has the bytes of at most one image.
 use Rattle.std.proofs.Common.{◌≡◌, ◌<◌, ◌^◌, ◌∙◌, ℕ, List, ◌++◌, length, take, drop, slice_index_or, ap, sym, refl}
-use Rattle.std.proofs.Math.Seq.{take-append_seam, drop-append_seam}
 use Rattle.std.proofs.lemmas.Nat.{from_le_bytes-to_le_bytes_4}
 use Rattle.std.specs.Int.{to_le_bytes, from_le_bytes, w32}
+use Rattle.qc_lists.specs.Law.Lists.{same_parts}
 use Rattle.qc_terms.specs.declared.state.Order.{Order}
 use Rattle.qc_terms.specs.declared.state.Order.TheVariants.{Little, Big}
 use Rattle.qc_terms.specs.declared.image.Image.{Image}
@@ -18,15 +18,6 @@ same_number : (m n : ℕ) → m < 2 ^ 32 → n < 2 ^ 32 → to_le_bytes w32 m �
 same_number m n p q e =
     sym (from_le_bytes-to_le_bytes_4 m p) ∙ ap (from_le_bytes w32) e ∙ from_le_bytes-to_le_bytes_4 n q
 
--- two parts each, of which the first ones have one length
-same_front : (us vs xs ys : List ℕ) → length us ≡ length vs → us ++ xs ≡ vs ++ ys → us ≡ vs
-same_front us vs xs ys e same =
-    sym (take-append_seam us xs) ∙ ap (take (length us)) same ∙ ap (λ n. take n (vs ++ ys)) e ∙ take-append_seam vs ys
-
-same_rest : (us vs xs ys : List ℕ) → length us ≡ length vs → us ++ xs ≡ vs ++ ys → xs ≡ ys
-same_rest us vs xs ys e same =
-    sym (drop-append_seam us xs) ∙ ap (drop (length us)) same ∙ ap (λ n. drop n (vs ++ ys)) e ∙ drop-append_seam vs ys
-
 image_from : ℕ → Order → List ℕ → List ℕ → Image
 image_from word order code initial = record { word = word; order = order; code = code; initial = initial }
 
@@ -38,8 +29,9 @@ one_image a b p q e =
     let code_length : length a.code ≡ length b.code =
     same_number _ _ p.code q.code (ap (λ bytes. take 4 (drop 8 bytes)) e) in
     let body : a.code ++ a.initial ≡ b.code ++ b.initial = ap (drop 16) e in
-    let code : a.code ≡ b.code = same_front _ _ _ _ code_length body in
-    let initial : a.initial ≡ b.initial = same_rest _ _ _ _ code_length body in
+    let parts : (a.code ≡ b.code) × (a.initial ≡ b.initial) = same_parts _ _ _ _ code_length body in
+    let code : a.code ≡ b.code = parts.0 in
+    let initial : a.initial ≡ b.initial = parts.1 in
     let whole : image_from a.word a.order a.code a.initial ≡ image_from b.word b.order b.code b.initial =
     cc (word, order, code, initial) in
     whole

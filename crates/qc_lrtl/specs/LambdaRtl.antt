@@ -5,7 +5,8 @@ use Rattle.qc_grammar.specs.Lexeme.{Class, Word, Lexeme, Vocabulary, reserving}
 use Rattle.qc_grammar.specs.Grammar.{Grammar, nonterminal, empty, repetition, ◌<+>◌, ◌*>◌, ◌<*◌, ◌<|>◌, ◌<$>◌, word, name, number, optional, Syntax, separated}
 use Rattle.qc_grammar.specs.Reading.{reads}
 use Rattle.qc_grammar.specs.Law.LL1.{IsReadable}
-use Rattle.qc_grammar.specs.Law.Lists.{Shortens, shortens_of}
+use Rattle.qc_grammar.specs.Lists.{Shortens}
+use Rattle.qc_grammar.specs.Law.Lists.{shortens_of}
 use Rattle.qc_grammar.specs.Law.Fuel.{unroll}
 use Rattle.qc_grammar.specs.declared.cursor.Number.{Number}
 use Rattle.qc_lrtl.specs.declared.syntax.Expr.{Expr}
@@ -44,13 +45,9 @@ pub data Rule : Type 0 where
 abbrev pub TreeOf : Rule → Type 0
 TreeOf any_expr = Expr
 
--- next_expr = "," expr
-unfoldable pub next_expr : Grammar Rule TreeOf Expr
-next_expr = word (codes ",") *> nonterminal any_expr
-
 -- exprs = expr { "," expr }
 unfoldable pub exprs : Grammar Rule TreeOf (List Expr)
-exprs = (λ p. p.0 ∷ p.1) <$> nonterminal any_expr <+> repetition next_expr
+exprs = separated (nonterminal any_expr) (codes ",")
 
 -- arguments = [ exprs ] ")", after the bracket before them
 unfoldable pub arguments : Grammar Rule TreeOf (List Expr)
@@ -241,7 +238,7 @@ abbrev pub lambda_rtl : Syntax Rule TreeOf
 lambda_rtl = record { rule = rule; goes_on = goes_on }
 
 pub lambda_rtl_is_readable : IsReadable lambda_rtl machine
-unfolding next_expr exprs arguments address argument cell after_name resized built expr assigned after_target simple
+unfolding exprs arguments address argument cell after_name resized built expr assigned after_target simple
     guard effect rtl arity param params operand_kind operand
     operands order single region flags role of_cells instruction declaration item ended_item items machine
 lambda_rtl_is_readable = record { rules = record { depth = 1; rules = elim [ any_expr ↦ refl ] }; start = refl }
@@ -253,7 +250,7 @@ expr_unrolls = unroll lambda_rtl lambda_rtl_is_readable.rules any_expr
 
 -- each phrase of a list has a token
 pub effect_shortens : Shortens (reads lambda_rtl effect)
-unfolding next_expr exprs arguments address cell assigned after_target simple guard effect expr resized built argument
+unfolding exprs arguments address cell assigned after_target simple guard effect expr resized built argument
     after_name
 effect_shortens = shortens_of lambda_rtl lambda_rtl_is_readable.rules effect refl refl
 
@@ -266,7 +263,7 @@ unfolding operand_kind operand
 operand_shortens = shortens_of lambda_rtl lambda_rtl_is_readable.rules operand refl refl
 
 pub ended_item_shortens : Shortens (reads lambda_rtl ended_item)
-unfolding next_expr exprs arguments address argument cell after_name resized built expr assigned after_target simple
+unfolding exprs arguments address argument cell after_name resized built expr assigned after_target simple
     guard effect rtl arity param params operand_kind operand operands order single region flags role of_cells
     instruction declaration item ended_item
 ended_item_shortens = shortens_of lambda_rtl lambda_rtl_is_readable.rules ended_item refl refl

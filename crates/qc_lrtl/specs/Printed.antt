@@ -217,7 +217,7 @@ abbrev Spells : {A : Type 0} → Grammar Rule TreeOf A → (A → Words) → Typ
 Spells g words_of = spell.EachSpells as_text rule_words g (λ words x. words ≡ words_of x)
 
 expr_spells : Spells grammar.expr expr_words
-unfolding grammar.expr grammar.after_name grammar.arguments grammar.exprs grammar.next_expr grammar.cell
+unfolding grammar.expr grammar.after_name grammar.arguments grammar.exprs grammar.cell
     grammar.built grammar.resized grammar.address grammar.argument next_words
 expr_spells = (
   (λ t q u. sym (expr_words-literal (number_in t) (number_in u))),
@@ -253,7 +253,7 @@ expr_spells = (
 
 simple_spells : Spells grammar.simple simple_words
 unfolding grammar.simple grammar.address grammar.assigned grammar.after_target grammar.cell
-    grammar.arguments grammar.exprs grammar.next_expr next_words
+    grammar.arguments grammar.exprs next_words
 simple_spells = (
   (λ n. (
     (λ t x. refl),

@@ -3,11 +3,11 @@ ghost use Rattle.std.specs.Prelude.{◌≡◌};
 ghost use Rattle.qc_grammar.specs.ReaderResult.{Gives};
 ghost use Rattle.qc_grammar.specs.Reading.{reads};
 ghost use Rattle.qc_grammar.specs.Grammar.{nonterminal, onto};
-ghost use Rattle.qc_lrtl.specs.LambdaRtl.{lambda_rtl, any_expr, next_expr, exprs, arguments, address, argument};
+ghost use Rattle.qc_lrtl.specs.LambdaRtl.{lambda_rtl, any_expr, exprs, arguments, address, argument};
 ghost use Rattle.qc_lrtl.specs.LambdaRtl.{cell, after_name, resized, built, expr, assigned};
 
 use crate::syntax::Expr;
-use qc_grammar::{Cursor, Ident, Number, Stop};
+use qc_grammar::{Cursor, Ident, Number, Stop, read_separated_by};
 use qc_text::Kind;
 use sqlite_items::{Boxed, Items};
 use std::alloc::Global;
@@ -160,24 +160,14 @@ pub(crate) fn read_arguments(alloc: Global, cursor: &mut Cursor<'_>) -> Result<I
 fn read_exprs(alloc: Global, cursor: &mut Cursor<'_>) -> Result<Items<Expr>, Stop>
     ensures { Gives result cursor.old cursor.new (reads lambda_rtl exprs) }
 {
-    let mut exprs = Items::new(alloc);
-    exprs.push(read_any_expr(alloc, cursor)?)?;
-    while cursor.is_word(b",") {
-        match read_next_expr(alloc, cursor) {
-            Ok(expr) => exprs.push(expr)?,
-            Err(stop) => return Err(stop),
-        }
-    }
-    Ok(exprs)
-}
-
-#[tactic(auto, unfolding(crate::specs::LambdaRtl::next_expr))]
-#[cycle(expressions)]
-fn read_next_expr(alloc: Global, cursor: &mut Cursor<'_>) -> Result<Expr, Stop>
-    ensures { Gives result cursor.old cursor.new (reads lambda_rtl next_expr) }
-{
-    cursor.word(b",")?;
-    read_any_expr(alloc, cursor)
+    read_separated_by(
+        alloc,
+        cursor,
+        b",",
+        |next: &mut Cursor<'_>| -> Result<Expr, Stop>
+            ensures { Gives result next.old next.new (reads lambda_rtl (nonterminal any_expr)) }
+        { read_any_expr(alloc, next) },
+    )
 }
 
 #[tactic(auto, unfolding(crate::specs::LambdaRtl::assigned))]

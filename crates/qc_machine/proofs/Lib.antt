@@ -1,4 +1,5 @@
 pub mod Inputs
 pub mod Instances
+pub mod Kept
 pub mod Loaded
 pub mod Steps

@@ -1,14 +1,20 @@
 //! Machines that run images.
-ghost use Rattle.std.specs.Prelude.{◌≡◌, ◌+◌, ◌-◌, ◌++◌, ◌<◌, ◌≤◌, ◌%◌, ◌^◌, All, IfOk, length, map, replicate};
+ghost use Rattle.std.specs.Prelude.{◌≡◌, ◌+◌, ◌-◌, ◌++◌, ◌<◌, ◌≤◌, ◌%◌, ◌^◌, All, IfOk, None, drop, length, map, replicate, take};
+ghost use Rattle.qc_machine.specs.Cache.{IsCacheOf, StandsAt};
+ghost use Rattle.qc_terms.specs.Effects.{outcome_of_trap};
+ghost use Rattle.qc_terms.specs.State.{IsState};
 ghost use Rattle.qc_descr.specs.Machine.{IsMachineOf};
 ghost use Rattle.qc_descr.specs.Description.{widths_of, counts_of};
 ghost use Rattle.qc_descr.specs.Loading.{FitsMachine, loaded_state};
 ghost use Rattle.qc_descr.specs.Loading.{loaded_memory as memory_of_image};
-ghost use Rattle.qc_descr.specs.Step.{Steps};
+ghost use Rattle.qc_descr.specs.Step.{EncodesAt, Steps};
 ghost use Rattle.qc_descr.specs.Valid.{HasLayout, IsValid};
 
+use crate::cache::{DecodeCache, Kept, memory_from};
+use arrayvec::ArrayVec;
 use qc_decode::Decoder;
-use qc_descr::Description;
+use qc_descr::{Description, Instance};
+use qc_flat::{flatten, run_flat};
 use qc_terms::{Cells, Event, Image, State, apply_rtl};
 use qc_text::NoMemory;
 use qc_words::Width;
@@ -32,6 +38,7 @@ pub struct Machine {
 
 impl Model for Machine {
     ghost use Rattle.qc_terms.specs.declared.state.State.{State};
+    ghost use Rattle.qc_terms.specs.Effects.{outcome_of_trap};
     ghost use Rattle.qc_terms.specs.State.{IsState};
 
     ghost Value = { State };
@@ -116,6 +123,75 @@ fn address_after(word: Width, pc: u64, size: usize) -> u64
     ((u128::from(pc) + size as u128) % (1u128 << word.bits())) as u64
 }
 
+/// Ends the run where no instance stands.
+fn end_undecodable(state: &mut State) -> Event
+    ensures state { state.new ≡ (outcome_of_trap 4 state.old).state }
+    ensures event { result ≡ (outcome_of_trap 4 state.old).event }
+{
+    let trap = Event::Trapped { code: 4 };
+    state.ending = Some(trap);
+    trap
+}
+
+/// A copy of the bytes of an instance.
+fn bytes_kept(bytes: &[u8]) -> ArrayVec<u8, 16>
+    requires { length bytes.now ≤ 16 }
+    ensures { result.items ≡ bytes.now }
+{
+    let mut kept = ArrayVec::new();
+    match kept.try_extend_from_slice(bytes) {
+        Ok(()) => kept,
+        Err(_) => unreachable!(),
+    }
+}
+
+/// What is kept of an instance that was decoded at the program counter from so many bytes.
+fn kept_of(descr: &Description, state: &State, instance: Instance, size: usize) -> Kept
+    requires valid { IsValid descr.now }
+    requires made { IsMachineOf descr.now state.now }
+    requires state { IsState state.now }
+    requires found { EncodesAt descr.now state.now.memory state.now.pc instance.instruction instance.operands.items
+        (take size (drop state.now.pc state.now.memory)) }
+    requires size { length (take size (drop state.now.pc state.now.memory)) ≡ size }
+    requires most { size ≤ 16 }
+    ensures { StandsAt descr.now state.now.memory state.now.pc result }
+{
+    let rest = memory_from(state.memory.as_slice(), state.pc);
+    let bytes = bytes_kept(&rest[..size]);
+    let after = address_after(state.facts.word, state.pc, size);
+    let instruction = &descr.instructions.as_slice()[instance.instruction as usize];
+    let flat = flatten(&instruction.rtl, instance.operands.as_slice(), after, state);
+    Kept {
+        at: state.pc,
+        bytes,
+        after,
+        flat,
+        instance,
+    }
+}
+
+/// The step of a machine that goes on and stands at an instance that was kept.
+fn run_kept(descr: &Description, kept: &Kept, state: &mut State) -> Event
+    requires running { state.old.ending ≡ None }
+    requires state { IsState state.old }
+    requires valid { IsValid descr.now }
+    requires made { IsMachineOf descr.now state.old }
+    requires stands { StandsAt descr.now state.old.memory state.old.pc kept.now }
+    ensures step { Steps descr.now state.old (record { state = state.new; event = result }) }
+    ensures kept { IsState state.new }
+    ensures same { IsMachineOf descr.now state.new }
+{
+    match &kept.flat {
+        Some(flat) => run_flat(flat.as_slice(), kept.after, state),
+        None => {
+            let number = kept.instance.instruction as usize;
+            let instruction = &descr.instructions.as_slice()[number];
+            let operands = kept.instance.operands.as_slice();
+            apply_rtl(&instruction.rtl, operands, kept.after, state)
+        }
+    }
+}
+
 impl Machine {
     /// A machine that is about to run an image with this input. It takes all memory of the run.
     pub fn open(
@@ -170,9 +246,7 @@ impl Machine {
         let place = (pc / 2) as usize % PLACES;
         let likely = self.likely[place];
         let Some((instance, size)) = self.decoder.decode_likely(descr, memory, pc, likely) else {
-            let trap = Event::Trapped { code: 4 };
-            self.state.ending = Some(trap);
-            return trap;
+            return end_undecodable(&mut self.state);
         };
         self.likely[place] = instance.instruction;
         let instruction = &descr.instructions.as_slice()[instance.instruction as usize];
@@ -183,5 +257,32 @@ impl Machine {
             after,
             &mut self.state,
         )
+    }
+
+    /// What `step` does, sooner where the instance was kept in the cache, which is one of this description. One that
+    /// wasn't kept is now.
+    pub fn step_cached(&mut self, descr: &Description, cache: &mut DecodeCache) -> Event
+        requires valid { IsValid descr.now }
+        requires made { IsMachineOf descr.now self.old }
+        requires cached { IsCacheOf descr.now cache.old }
+        ensures step { Steps descr.now self.old (record { state = self.new; event = result }) }
+        ensures kept { IsMachineOf descr.now self.new }
+        ensures cache { IsCacheOf descr.now cache.new }
+    {
+        if let Some(ended) = self.state.ending {
+            return ended;
+        }
+        let pc = self.state.pc;
+        if let Some(kept) = cache.kept_at(self.state.memory.as_slice(), pc) {
+            return run_kept(descr, kept, &mut self.state);
+        }
+        let memory = self.state.memory.as_slice();
+        let Some((instance, size)) = self.decoder.decode(descr, memory, pc) else {
+            return end_undecodable(&mut self.state);
+        };
+        let kept = kept_of(descr, &self.state, instance, size);
+        let event = run_kept(descr, &kept, &mut self.state);
+        cache.keep(kept);
+        event
     }
 }

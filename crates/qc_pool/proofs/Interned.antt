@@ -39,15 +39,21 @@ whole old mid new t id before self inside added =
       }
     ]
 
-pub un_interned : (old mid new : List Tree) (op : Op) (a t : Tree) (x id : ℕ) → t ≡ Unary op a → IsInterned old mid a x →
-    IsAdded mid new (Unary op (term_at mid x)) id → IsInterned old new t id
-un_interned old mid new op a t x id is arg added =
-    let same = ap (λ b. Unary op b) (at_id mid x a arg.at).1 in
+-- after the one part of a term, the term itself
+one_interned : (old mid new : List Tree) (over : Tree → Tree) (a t : Tree) (x id : ℕ) →
+    ((p : Tree) → IsWithin p (over a) → (p ≡ over a) ⊎ IsWithin p a) → ((p : Tree) → (p ≡ over a) ⊎ IsWithin p a → IsWithin p (over a)) →
+    t ≡ over a → IsInterned old mid a x → IsAdded mid new (over (term_at mid x)) id → IsInterned old new t id
+one_interned old mid new over a t x id out into is arg added =
+    let same = ap over (at_id mid x a arg.at).1 in
     let P : Tree → Type 0 = λ u. IsAdded mid new u id in
     let Q : Tree → Type 0 = λ u. IsInterned old new u id in
     let parts = arg.change in
-    subst Q (sym is) (whole old mid new (Unary op a) id (parts.0, parts.1, under (Unary op a) a (λ p w. inr w) parts.0 parts.2)
-    (inl refl) (λ p within. elim within [ inl same ↦ inl same | inr below ↦ inr (arg.parts p below) ]) (subst P same added))
+    subst Q (sym is) (whole old mid new (over a) id (parts.0, parts.1, under (over a) a (λ p w. into p (inr w)) parts.0 parts.2)
+    (into (over a) (inl refl)) (λ p within. elim (out p within) [ inl same ↦ inl same | inr below ↦ inr (arg.parts p below) ]) (subst P same added))
+
+pub un_interned : (old mid new : List Tree) (op : Op) (a t : Tree) (x id : ℕ) → t ≡ Unary op a → IsInterned old mid a x →
+    IsAdded mid new (Unary op (term_at mid x)) id → IsInterned old new t id
+un_interned old mid new op a t x id = one_interned old mid new (Unary op) a t x id (λ p w. w) (λ p w. w)
 
 pub un_fits : (old mid : List Tree) (op : Op) (a t : Tree) (x : ℕ) → t ≡ Unary op a → HasWidths t → IsInterned old mid a x → NodeFits mid (Un op x)
 un_fits old mid op a t x is widths arg =
@@ -57,13 +63,7 @@ un_fits old mid op a t x is widths arg =
 
 pub mem_interned : (old mid new : List Tree) (width : ℕ) (a t : Tree) (x id : ℕ) → t ≡ Load width a → IsInterned old mid a x →
     IsAdded mid new (Load width (term_at mid x)) id → IsInterned old new t id
-mem_interned old mid new width a t x id is arg added =
-    let same = ap (λ b. Load width b) (at_id mid x a arg.at).1 in
-    let P : Tree → Type 0 = λ u. IsAdded mid new u id in
-    let Q : Tree → Type 0 = λ u. IsInterned old new u id in
-    let parts = arg.change in
-    subst Q (sym is) (whole old mid new (Load width a) id (parts.0, parts.1, under (Load width a) a (λ p w. inr w) parts.0 parts.2)
-    (inl refl) (λ p within. elim within [ inl same ↦ inl same | inr below ↦ inr (arg.parts p below) ]) (subst P same added))
+mem_interned old mid new width a t x id = one_interned old mid new (Load width) a t x id (λ p w. w) (λ p w. w)
 
 -- the first part keeps its id while the second one comes
 keeps : (old new : List Tree) (t : Tree) (id : ℕ) → IsInterned old new t id → Keeps old new

@@ -134,7 +134,7 @@ Spells g words_of = spell.EachSpells as_text rule_words g (λ words x. words ≡
 
 -- one line for each alternative
 expr_spells : Spells grammar.expr expr_words
-unfolding grammar.expr grammar.after_name grammar.arguments grammar.exprs grammar.next_expr next_words
+unfolding grammar.expr grammar.after_name grammar.arguments grammar.exprs next_words
 expr_spells = (
   (λ t. sym (expr_words-number (number_in t))),
   (
@@ -157,7 +157,7 @@ expr_spells = (
 
 statement_spells : Spells grammar.statement statement_words
 unfolding grammar.statement grammar.statements grammar.simple grammar.type_of grammar.arguments grammar.exprs
-    grammar.next_expr next_words
+    next_words
 statement_spells = (
   (λ t n. (
     (λ u m v a w. sym (statement_words-let (ident_of n) (Some (ident_of m)) a)),

@@ -2,7 +2,7 @@
 use Rattle.std.specs.Prelude.{ℕ, List, [], ◌∷◌, Option, codes, ◌≡◌, refl}
 use Rattle.qc_grammar.specs.declared.cursor.Ident.{Ident}
 use Rattle.qc_grammar.specs.Lexeme.{Class, Word, Lexeme, Vocabulary, reserving}
-use Rattle.qc_grammar.specs.Grammar.{Grammar, nonterminal, empty, repetition, ◌<+>◌, ◌*>◌, ◌<*◌, ◌<|>◌, ◌<$>◌, word, name, number, optional, Syntax}
+use Rattle.qc_grammar.specs.Grammar.{Grammar, nonterminal, empty, repetition, ◌<+>◌, ◌*>◌, ◌<*◌, ◌<|>◌, ◌<$>◌, word, name, number, optional, separated, Syntax}
 use Rattle.qc_grammar.specs.Reading.{reads}
 use Rattle.qc_grammar.specs.Law.LL1.{IsReadable}
 use Rattle.qc_grammar.specs.Law.Fuel.{unroll}
@@ -28,13 +28,9 @@ abbrev pub TreeOf : Rule → Type 0
 TreeOf any_expr = Expr
 TreeOf any_statement = Statement
 
--- next_expr = "," expr
-unfoldable pub next_expr : Grammar Rule TreeOf Expr
-next_expr = word (codes ",") *> nonterminal any_expr
-
 -- exprs = expr { "," expr }
 unfoldable pub exprs : Grammar Rule TreeOf (List Expr)
-exprs = (λ p. p.0 ∷ p.1) <$> nonterminal any_expr <+> repetition next_expr
+exprs = separated (nonterminal any_expr) (codes ",")
 
 -- arguments = [ exprs ] ")", after the bracket before them
 unfoldable pub arguments : Grammar Rule TreeOf (List Expr)
@@ -96,7 +92,7 @@ abbrev pub sample : Syntax Rule TreeOf
 sample = record { rule = rule; goes_on = goes_on }
 
 pub sample_is_readable : IsReadable sample program
-unfolding next_expr exprs arguments after_name expr type_of simple statement statements program
+unfolding exprs arguments after_name expr type_of simple statement statements program
 sample_is_readable =
     record { rules = record { depth = 2; rules = elim [ any_expr ↦ refl | any_statement ↦ refl ] }; start = refl }
 

@@ -3,10 +3,10 @@ ghost use Rattle.std.specs.Prelude.{◌≡◌};
 ghost use Rattle.qc_grammar.specs.ReaderResult.{Gives};
 ghost use Rattle.qc_grammar.specs.Reading.{reads};
 ghost use Rattle.qc_grammar.specs.Grammar.{nonterminal, onto};
-ghost use Rattle.qc_sample.specs.Sample.{sample, any_expr, next_expr, exprs, arguments, after_name, expr};
+ghost use Rattle.qc_sample.specs.Sample.{sample, any_expr, exprs, arguments, after_name, expr};
 
 use crate::syntax::Expr;
-use qc_grammar::{Cursor, Ident, Stop};
+use qc_grammar::{Cursor, Ident, Stop, read_separated_by};
 use qc_text::Kind;
 use sqlite_items::{Boxed, Items};
 use std::alloc::Global;
@@ -80,22 +80,12 @@ pub(crate) fn read_arguments(alloc: Global, cursor: &mut Cursor<'_>) -> Result<I
 pub(crate) fn read_exprs(alloc: Global, cursor: &mut Cursor<'_>) -> Result<Items<Expr>, Stop>
     ensures { Gives result cursor.old cursor.new (reads sample exprs) }
 {
-    let mut exprs = Items::new(alloc);
-    exprs.push(read_any_expr(alloc, cursor)?)?;
-    while cursor.is_word(b",") {
-        match read_next_expr(alloc, cursor) {
-            Ok(expr) => exprs.push(expr)?,
-            Err(stop) => return Err(stop),
-        }
-    }
-    Ok(exprs)
-}
-
-#[tactic(auto, unfolding(crate::specs::Sample::next_expr))]
-#[cycle(expressions)]
-fn read_next_expr(alloc: Global, cursor: &mut Cursor<'_>) -> Result<Expr, Stop>
-    ensures { Gives result cursor.old cursor.new (reads sample next_expr) }
-{
-    cursor.word(b",")?;
-    read_any_expr(alloc, cursor)
+    read_separated_by(
+        alloc,
+        cursor,
+        b",",
+        |next: &mut Cursor<'_>| -> Result<Expr, Stop>
+            ensures { Gives result next.old next.new (reads sample (nonterminal any_expr)) }
+        { read_any_expr(alloc, next) },
+    )
 }

@@ -15,7 +15,7 @@ use crate::expressions::{read_any_expr, read_arguments, read_exprs};
 use crate::syntax::{Program, Statement};
 use qc_grammar::{
     ClassedToken, Cursor, Ident, ReadError, ReadTextEnd, Stop, Vocabulary, answer, begin,
-    is_reserved, scan, settle,
+    is_reserved, read_many_by, scan, settle,
 };
 use qc_text::{Kind, Token};
 use sqlite_items::Items;
@@ -121,14 +121,16 @@ fn begins_statement(cursor: &Cursor<'_>) -> bool
 fn read_statements(alloc: Global, cursor: &mut Cursor<'_>) -> Result<Items<Statement>, Stop>
     ensures { Gives result cursor.old cursor.new (reads sample statements) }
 {
-    let mut statements = Items::new(alloc);
-    while begins_statement(cursor) {
-        match read_any_statement(alloc, cursor) {
-            Ok(statement) => statements.push(statement)?,
-            Err(stop) => return Err(stop),
-        }
-    }
-    Ok(statements)
+    read_many_by(
+        alloc,
+        cursor,
+        |next: &Cursor<'_>| -> bool
+            ensures { result ≡ next_in (first sample (nonterminal any_statement)) next.now }
+        { begins_statement(next) },
+        |next: &mut Cursor<'_>| -> Result<Statement, Stop>
+            ensures { Gives result next.old next.new (reads sample (nonterminal any_statement)) }
+        { read_any_statement(alloc, next) },
+    )
 }
 
 #[tactic(auto, unfolding(crate::specs::Sample::program))]

@@ -134,7 +134,7 @@ atom_spells = (
 )
 
 conjunction_spells : Spells grammar.conjunction pattern_words
-unfolding grammar.conjunction grammar.atoms grammar.next_atom next_words
+unfolding grammar.conjunction grammar.atoms next_words
 conjunction_spells =
     spell.spelled as_text rule_words grammar.atom pattern_words atom_spells _ (λ x. (
       next_words (codes "&") pattern_words,
@@ -143,7 +143,7 @@ conjunction_spells =
     ))
 
 sequence_spells : Spells grammar.sequence pattern_words
-unfolding grammar.sequence grammar.conjunctions grammar.next_conjunction next_words
+unfolding grammar.sequence grammar.conjunctions next_words
 sequence_spells =
     spell.spelled as_text rule_words grammar.conjunction pattern_words conjunction_spells _ (λ x. (
       next_words (codes ";") pattern_words,
@@ -152,7 +152,7 @@ sequence_spells =
     ))
 
 pattern_spells : Spells grammar.pattern pattern_words
-unfolding grammar.pattern grammar.sequences grammar.next_sequence next_words
+unfolding grammar.pattern grammar.sequences next_words
 pattern_spells =
     spell.spelled as_text rule_words grammar.sequence pattern_words sequence_spells _ (λ x. (
       next_words (codes "|") pattern_words,

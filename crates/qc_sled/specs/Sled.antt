@@ -1,11 +1,12 @@
 -- The grammar of coding texts, rule by rule. Words in quotes are reserved, and no names.
-use Rattle.std.specs.Prelude.{ℕ, true, List, [], ◌∷◌, Option, codes, ◌≡◌, refl}
+use Rattle.std.specs.Prelude.{ℕ, List, [], ◌∷◌, Option, codes, ◌≡◌, refl}
 use Rattle.qc_grammar.specs.declared.cursor.Ident.{Ident}
 use Rattle.qc_grammar.specs.Lexeme.{Class, Word, Lexeme, Vocabulary, reserving}
 use Rattle.qc_grammar.specs.Grammar.{Grammar, nonterminal, empty, repetition, ◌<+>◌, ◌*>◌, ◌<*◌, ◌<|>◌, ◌<$>◌, word, name, number, optional, Syntax, separated}
 use Rattle.qc_grammar.specs.Reading.{reads}
-use Rattle.qc_grammar.specs.Law.LL1.{IsReadable, is_clean}
-use Rattle.qc_grammar.specs.Law.Lists.{Shortens, shortens_of}
+use Rattle.qc_grammar.specs.Law.LL1.{IsReadable}
+use Rattle.qc_grammar.specs.Lists.{Shortens}
+use Rattle.qc_grammar.specs.Law.Lists.{shortens_of}
 use Rattle.qc_grammar.specs.Law.Fuel.{unroll}
 use Rattle.qc_sled.specs.declared.syntax.Field.{Field}
 use Rattle.qc_sled.specs.declared.syntax.Reach.{Reach}
@@ -83,37 +84,25 @@ atom =
     (λ p. p.1 p.0) <$> name <+> after_atom
     <|> (λ p. part.Group p.0 p.1) <$> word (codes "(") <+> nonterminal any_pattern <* word (codes ")")
 
--- next_atom = "&" atom
-unfoldable pub next_atom : Grammar Rule TreeOf Pattern
-next_atom = word (codes "&") *> atom
-
 -- atoms = atom { "&" atom }
 unfoldable pub atoms : Grammar Rule TreeOf (List Pattern)
-atoms = (λ p. p.0 ∷ p.1) <$> atom <+> repetition next_atom
+atoms = separated atom (codes "&")
 
 -- conjunction = atoms
 unfoldable pub conjunction : Grammar Rule TreeOf Pattern
 conjunction = part.Conjunction <$> atoms
 
--- next_conjunction = ";" conjunction
-unfoldable pub next_conjunction : Grammar Rule TreeOf Pattern
-next_conjunction = word (codes ";") *> conjunction
-
 -- conjunctions = conjunction { ";" conjunction }
 unfoldable pub conjunctions : Grammar Rule TreeOf (List Pattern)
-conjunctions = (λ p. p.0 ∷ p.1) <$> conjunction <+> repetition next_conjunction
+conjunctions = separated conjunction (codes ";")
 
 -- sequence = conjunctions
 unfoldable pub sequence : Grammar Rule TreeOf Pattern
 sequence = part.Sequence <$> conjunctions
 
--- next_sequence = "|" sequence
-unfoldable pub next_sequence : Grammar Rule TreeOf Pattern
-next_sequence = word (codes "|") *> sequence
-
 -- sequences = sequence { "|" sequence }
 unfoldable pub sequences : Grammar Rule TreeOf (List Pattern)
-sequences = (λ p. p.0 ∷ p.1) <$> sequence <+> repetition next_sequence
+sequences = separated sequence (codes "|")
 
 -- pattern = sequences
 unfoldable pub pattern : Grammar Rule TreeOf Pattern
@@ -149,7 +138,7 @@ sled = record { rule = rule; goes_on = goes_on }
 
 pub sled_is_readable : IsReadable sled coding
 unfolding field fields reach reach_of param params bits value
-    after_atom atom next_atom atoms conjunction next_conjunction conjunctions sequence next_sequence sequences pattern
+    after_atom atom atoms conjunction conjunctions sequence sequences pattern
     item items coding
 sled_is_readable = record { rules = record { depth = 1; rules = elim [ any_pattern ↦ refl ] }; start = refl }
 
@@ -157,7 +146,7 @@ sled_is_readable = record { rules = record { depth = 1; rules = elim [ any_patte
 pub pattern_unrolls : (tokens : List Lexeme) → reads sled (nonterminal any_pattern) tokens ≡ reads sled pattern tokens
 pattern_unrolls = unroll sled sled_is_readable.rules any_pattern
 
--- what the loops repeat can be repeated
+-- each phrase of a list has a token
 pub field_shortens : Shortens (reads sled field)
 unfolding field
 field_shortens = shortens_of sled sled_is_readable.rules field refl refl
@@ -166,18 +155,17 @@ pub param_shortens : Shortens (reads sled param)
 unfolding reach reach_of param
 param_shortens = shortens_of sled sled_is_readable.rules param refl refl
 
-pub next_atom_repeats : is_clean sled (repetition next_atom) ≡ true
-unfolding bits value after_atom atom next_atom
-next_atom_repeats = refl
+pub atom_shortens : Shortens (reads sled atom)
+unfolding bits value after_atom atom
+atom_shortens = shortens_of sled sled_is_readable.rules atom refl refl
 
-pub next_conjunction_repeats : is_clean sled (repetition next_conjunction) ≡ true
-unfolding bits value after_atom atom next_atom atoms conjunction next_conjunction
-next_conjunction_repeats = refl
+pub conjunction_shortens : Shortens (reads sled conjunction)
+unfolding bits value after_atom atom atoms conjunction
+conjunction_shortens = shortens_of sled sled_is_readable.rules conjunction refl refl
 
-pub next_sequence_repeats : is_clean sled (repetition next_sequence) ≡ true
-unfolding bits value after_atom atom next_atom atoms conjunction next_conjunction conjunctions sequence
-    next_sequence
-next_sequence_repeats = refl
+pub sequence_shortens : Shortens (reads sled sequence)
+unfolding bits value after_atom atom atoms conjunction conjunctions sequence
+sequence_shortens = shortens_of sled sled_is_readable.rules sequence refl refl
 
 pub item_shortens : Shortens (reads sled item)
 unfolding field fields reach reach_of param params item

@@ -1,17 +1,17 @@
 //! The reader of patterns.
-ghost use Rattle.std.specs.Prelude.{◌≡◌, ◌∷◌, [], IfOk};
+ghost use Rattle.std.specs.Prelude.{◌≡◌};
 ghost use Rattle.qc_grammar.specs.ReaderResult.{Gives};
 ghost use Rattle.qc_grammar.specs.Reading.{reads};
 ghost use Rattle.qc_grammar.specs.Grammar.{nonterminal, onto};
-ghost use Rattle.qc_sled.specs.Sled.{sled, any_pattern, bits, value, after_atom, atom, next_atom, atoms};
-ghost use Rattle.qc_sled.specs.Sled.{conjunction, next_conjunction, conjunctions};
-ghost use Rattle.qc_sled.specs.Sled.{sequence, next_sequence, sequences, pattern};
+ghost use Rattle.qc_sled.specs.Sled.{sled, any_pattern, bits, value, after_atom, atom, atoms};
+ghost use Rattle.qc_sled.specs.Sled.{conjunction, conjunctions};
+ghost use Rattle.qc_sled.specs.Sled.{sequence, sequences, pattern};
 
 use crate::syntax::{Pattern, Value};
-use qc_grammar::{Cursor, Ident, Stop};
+use qc_grammar::{Cursor, Ident, Stop, read_separated_by};
 use qc_text::Kind;
 use sqlite_items::{Boxed, Items};
-use std::alloc::{AllocError, Global};
+use std::alloc::Global;
 
 #[tactic(auto, unfolding(crate::specs::Sled::bits))]
 fn read_bits(cursor: &mut Cursor<'_>, name: Ident) -> Result<Value, Stop>
@@ -55,15 +55,6 @@ fn read_after_atom(alloc: Global, cursor: &mut Cursor<'_>, name: Ident) -> Resul
     }
 }
 
-/// A list of one part, with room for no other: most lists stay that long.
-fn only(alloc: Global, part: Pattern) -> Result<Items<Pattern>, AllocError>
-    ensures { IfOk result (λ parts. parts ≡ part ∷ []) }
-{
-    let mut parts = Vec::with_capacity(alloc, 1)?;
-    parts.push(part)?;
-    Ok(Items::from_vec(parts))
-}
-
 #[cycle(patterns)]
 pub(crate) fn read_any_pattern(alloc: Global, cursor: &mut Cursor<'_>) -> Result<Pattern, Stop>
     ensures { Gives result cursor.old cursor.new (reads sled (nonterminal any_pattern)) }
@@ -85,23 +76,14 @@ fn read_pattern(alloc: Global, cursor: &mut Cursor<'_>) -> Result<Pattern, Stop>
 fn read_sequences(alloc: Global, cursor: &mut Cursor<'_>) -> Result<Items<Pattern>, Stop>
     ensures { Gives result cursor.old cursor.new (reads sled sequences) }
 {
-    let mut sequences = only(alloc, read_sequence(alloc, cursor)?)?;
-    while cursor.is_word(b"|") {
-        match read_next_sequence(alloc, cursor) {
-            Ok(sequence) => sequences.push(sequence)?,
-            Err(stop) => return Err(stop),
-        }
-    }
-    Ok(sequences)
-}
-
-#[tactic(auto, unfolding(crate::specs::Sled::next_sequence))]
-#[cycle(patterns)]
-fn read_next_sequence(alloc: Global, cursor: &mut Cursor<'_>) -> Result<Pattern, Stop>
-    ensures { Gives result cursor.old cursor.new (reads sled next_sequence) }
-{
-    cursor.word(b"|")?;
-    read_sequence(alloc, cursor)
+    read_separated_by(
+        alloc,
+        cursor,
+        b"|",
+        |next: &mut Cursor<'_>| -> Result<Pattern, Stop>
+            ensures { Gives result next.old next.new (reads sled sequence) }
+        { read_sequence(alloc, next) },
+    )
 }
 
 #[tactic(auto, unfolding(crate::specs::Sled::sequence))]
@@ -118,23 +100,14 @@ fn read_sequence(alloc: Global, cursor: &mut Cursor<'_>) -> Result<Pattern, Stop
 fn read_conjunctions(alloc: Global, cursor: &mut Cursor<'_>) -> Result<Items<Pattern>, Stop>
     ensures { Gives result cursor.old cursor.new (reads sled conjunctions) }
 {
-    let mut conjunctions = only(alloc, read_conjunction(alloc, cursor)?)?;
-    while cursor.is_word(b";") {
-        match read_next_conjunction(alloc, cursor) {
-            Ok(conjunction) => conjunctions.push(conjunction)?,
-            Err(stop) => return Err(stop),
-        }
-    }
-    Ok(conjunctions)
-}
-
-#[tactic(auto, unfolding(crate::specs::Sled::next_conjunction))]
-#[cycle(patterns)]
-fn read_next_conjunction(alloc: Global, cursor: &mut Cursor<'_>) -> Result<Pattern, Stop>
-    ensures { Gives result cursor.old cursor.new (reads sled next_conjunction) }
-{
-    cursor.word(b";")?;
-    read_conjunction(alloc, cursor)
+    read_separated_by(
+        alloc,
+        cursor,
+        b";",
+        |next: &mut Cursor<'_>| -> Result<Pattern, Stop>
+            ensures { Gives result next.old next.new (reads sled conjunction) }
+        { read_conjunction(alloc, next) },
+    )
 }
 
 #[tactic(auto, unfolding(crate::specs::Sled::conjunction))]
@@ -151,23 +124,14 @@ fn read_conjunction(alloc: Global, cursor: &mut Cursor<'_>) -> Result<Pattern, S
 fn read_atoms(alloc: Global, cursor: &mut Cursor<'_>) -> Result<Items<Pattern>, Stop>
     ensures { Gives result cursor.old cursor.new (reads sled atoms) }
 {
-    let mut atoms = only(alloc, read_atom(alloc, cursor)?)?;
-    while cursor.is_word(b"&") {
-        match read_next_atom(alloc, cursor) {
-            Ok(atom) => atoms.push(atom)?,
-            Err(stop) => return Err(stop),
-        }
-    }
-    Ok(atoms)
-}
-
-#[tactic(auto, unfolding(crate::specs::Sled::next_atom))]
-#[cycle(patterns)]
-fn read_next_atom(alloc: Global, cursor: &mut Cursor<'_>) -> Result<Pattern, Stop>
-    ensures { Gives result cursor.old cursor.new (reads sled next_atom) }
-{
-    cursor.word(b"&")?;
-    read_atom(alloc, cursor)
+    read_separated_by(
+        alloc,
+        cursor,
+        b"&",
+        |next: &mut Cursor<'_>| -> Result<Pattern, Stop>
+            ensures { Gives result next.old next.new (reads sled atom) }
+        { read_atom(alloc, next) },
+    )
 }
 
 #[tactic(auto, unfolding(crate::specs::Sled::atom))]

@@ -1,6 +1,6 @@
 //! Laws of terms and of memory. Each function here does nothing: its contract is the law.
 
-ghost use Rattle.std.specs.Prelude.{ℕ, ◌≡◌, ◌+◌, ◌<◌, ◌≤◌, ◌%◌, ◌^◌, List, [], length, IfSome, IsTrue, None, Some};
+ghost use Rattle.std.specs.Prelude.{ℕ, ◌≡◌, ◌+◌, ◌<◌, ◌≤◌, ◌%◌, ◌^◌, List, [], length, IfSome, None, Some};
 ghost use Rattle.qc_terms.specs.declared.state.Order.{Order};
 ghost use Rattle.qc_terms.specs.declared.state.State.{State};
 ghost use Rattle.qc_terms.specs.declared.term.Rtl.{Rtl};
@@ -9,7 +9,7 @@ ghost use Rattle.qc_terms.specs.Effects.{outcome_of};
 ghost use Rattle.qc_terms.specs.Memory.{load_of, store_of};
 ghost use Rattle.qc_terms.specs.Observation.{ending_of};
 ghost use Rattle.qc_terms.specs.State.{Context, IsState, context_of};
-ghost use Rattle.qc_terms.specs.Tree.{Tree, has_input, width_of};
+ghost use Rattle.qc_terms.specs.Tree.{Tree, width_of};
 ghost use Rattle.qc_terms.specs.Typing.{HasOneEvent, IsTyped, OperandsFit};
 ghost use Rattle.qc_terms.specs.Value.{value_of};
 
@@ -19,11 +19,10 @@ pub fn typed_terms_have_no_clash()
 {}
 
 /// The value of a typed term, where it has one, is a word of the term's width: in a state that keeps its rule, with
-/// operands that fit and a word after the instruction, and where a word of the input is left if the term reads one.
+/// operands that fit and a word after the instruction. Where the input has been read whole, its next word reads as 0.
 pub fn typed_values_are_words()
     ensures { (s : State) (operands : List ℕ) (after : ℕ) → IsState s → after < 2 ^ s.facts.word → (t : Tree) →
         IsTyped (context_of s) t → OperandsFit (context_of s) operands t →
-        (IsTrue (has_input t) → s.taken < length s.input) →
         IfSome (value_of t operands after s) (λ v. v < 2 ^ width_of t) }
 {}
 

@@ -1,6 +1,7 @@
 -- A file is cut in one way.
 use Rattle.std.proofs.Common.{ℕ, ◌≡◌, ◌∙◌, inl, inr, List, [], ◌∷◌, ◌++◌, length, refl, ap, sym, subst, arith}
 use Rattle.std.specs.Prelude.{Option, None, Some}
+use Rattle.qc_lists.specs.Law.Lists.{same_parts}
 use Rattle.qc_text.specs.declared.token.Kind.{Kind}
 use Rattle.qc_text.specs.declared.token.Kind.TheVariants.{Name, Prim, Number, Str, Punct}
 use Rattle.qc_text.specs.declared.token.Token.{Token}
@@ -53,16 +54,6 @@ one_kind kind other (b ∷ bs) is also =
     shape_kind kind b bs (sort_of b) (shape kind b bs is)
     ∙ sym (shape_kind other b bs (sort_of b) (shape other b bs also))
 
-same_fronts : (xs ys r s : List ℕ) → length xs ≡ length ys → xs ++ r ≡ ys ++ s → (xs ≡ ys) × (r ≡ s)
-same_fronts [] [] r s size e = (refl, e)
-same_fronts [] (y ∷ ys) r s size e = absurd (omega arith)
-same_fronts (x ∷ xs) [] r s size e = absurd (omega arith)
-same_fronts (x ∷ xs) (y ∷ ys) r s size e =
-    let rest = same_fronts xs ys r s (omega arith) (cc e) in
-    let first : x ≡ y = cc e in
-    let same : x ∷ xs ≡ y ∷ ys = cc (first, rest.0) in
-    (same, rest.1)
-
 abbrev piece_of : Option Kind → List ℕ → Piece
 piece_of kind text = record { kind = kind; text = text }
 
@@ -76,7 +67,7 @@ one_first bytes p q r s first also =
     let size : length p.text ≡ length q.text =
     omega (arith, first.longest q.kind q.text s also.is also.split, also.longest p.kind p.text r first.is first.split)
     in
-    let same = same_fronts p.text q.text r s size (sym first.split ∙ also.split) in
+    let same = same_parts p.text q.text r s size (sym first.split ∙ also.split) in
     let kind : p.kind ≡ q.kind = one_kind p.kind q.kind q.text (subst (IsPieceText p.kind) same.0 first.is) also.is in
     let text : p.text ≡ q.text = same.0 in
     (same_piece p.kind q.kind p.text q.text kind text, same.1)

@@ -1,7 +1,7 @@
 -- The piece at the front of a byte and the bytes behind it.
 use Rattle.std.proofs.Common.{ℕ, suc, ◌≡◌, ◌≢◌, ◌∙◌, ◌+◌, ◌≤◌, ◌<◌, ◌&&◌, ◌||◌, inl, inr, Bool, true, false, nat_eq, if◌then◌else◌, List, [], ◌∷◌, ◌++◌, length, take, drop, get_or, drop-cons, refl, ap, sym, subst, arith, append_assoc, length-append}
 use Rattle.std.proofs.Math.Seq.{take-append_seam, drop-append_seam, get_or-append_seam}
-use Rattle.std.proofs.lemmas.Bool.{eqb-true, ne_eqb}
+use Rattle.std.proofs.lemmas.Bool.{and_parts, eqb-true, ne_eqb, or_cases}
 use Rattle.std.proofs.lemmas.List.{take-append-drop}
 use Rattle.std.proofs.lemmas.List.Folds.{length-prefix_len}
 use Rattle.std.specs.Char.{is_ascii_digit, is_ascii_hexdigit}
@@ -13,8 +13,8 @@ use Rattle.qc_text.specs.declared.token.Kind.TheVariants.{Name, Prim, Number, St
 use Rattle.qc_text.specs.Inner.Scanning.{IsFront, is_pair, begins_pair, hexadecimal_run}
 use Rattle.qc_text.specs.Pieces.{IsFirst, IsPieceText}
 use Rattle.qc_text.specs.Tokens.{is_blank, is_name_start, is_name_part, is_punctuation, is_string_byte, IsNameText, IsNumberText, IsStringText, IsPunctText, IsComment}
-use Rattle.qc_text.proofs.Runs.{both_true, run_covers, run_ends, run_passes}
-use Rattle.qc_text.proofs.Shapes.{Sort, names, numbers, prims, strings, slashes, blanks, marks, others, sort_of, Shape, a_name, a_number, a_prim, a_string, a_blank, a_mark, a_pair, shape, or_true, sort_name, sort_digit, sort_blank, sort_mark, sort_percent, sort_quote, sort_slash}
+use Rattle.qc_text.proofs.Runs.{run_covers, run_ends, run_passes}
+use Rattle.qc_text.proofs.Shapes.{Sort, names, numbers, prims, strings, slashes, blanks, marks, others, sort_of, Shape, a_name, a_number, a_prim, a_string, a_blank, a_mark, a_pair, shape, sort_name, sort_digit, sort_blank, sort_mark, sort_percent, sort_quote, sort_slash}
 
 whole : (bytes text rest : List ℕ) (kind : Option Kind) (n : ℕ) → n ≡ length text → 0 < n
     → IsFirst bytes (record { kind = kind; text = text }) rest
@@ -113,7 +113,7 @@ number_shape kind b text (a_number k is) = is
 
 decimal_most : (b : ℕ) (bs text after : List ℕ) → hexadecimal_run b bs ≡ 0 → bs ≡ text ++ after
     → IsNumberText (b ∷ text) → length text ≤ length (take (prefix_len is_ascii_digit bs) bs)
-decimal_most b bs text after plain e (inl digits) = covers is_ascii_digit bs text after e (both_true _ _ digits.1).1
+decimal_most b bs text after plain e (inl digits) = covers is_ascii_digit bs text after e (and_parts _ _ digits.1).1
 decimal_most b bs text after plain e (inr (digits, are, same)) =
     let behind : text ≡ 120 ∷ digits = cc same in
     let whole_text : bs ≡ 120 ∷ (digits ++ after) = e ∙ ap (λ xs. xs ++ after) behind in
@@ -137,7 +137,7 @@ hexadecimal_most : (ds text after : List ℕ) → 120 ∷ ds ≡ text ++ after �
 hexadecimal_most ds [] after e is = omega arith
 hexadecimal_most ds (x ∷ text) after e (inl digits) =
     let first : x ≡ 120 = cc e in
-    let digit : is_ascii_digit x ≡ true = (both_true _ _ digits.1).0 in
+    let digit : is_ascii_digit x ≡ true = (and_parts _ _ digits.1).0 in
     let not_a_digit : is_ascii_digit x ≡ false = ap is_ascii_digit first in
     cc (digit, not_a_digit)
 hexadecimal_most ds (x ∷ text) after e (inr (digits, are, same)) =
@@ -165,7 +165,7 @@ behind_0x : (b x : ℕ) (ds : List ℕ) (t : Bool) → (nat_eq b 48 && nat_eq x 
     (Some (record { kind = Some Number; length = 2 + (if t then prefix_len is_ascii_hexdigit ds else 0) }))
 behind_0x b x ds false e some = absurd (some refl)
 behind_0x b x ds true e some =
-    let both = both_true (nat_eq b 48) (nat_eq x 120) e in
+    let both = and_parts (nat_eq b 48) (nat_eq x 120) e in
     let found : Option Front = Some (record { kind = Some Number; length = 2 + prefix_len is_ascii_hexdigit ds }) in
     subst (λ y. IsFront (y ∷ x ∷ ds) found) (sym (eqb-true b 48 both.0))
     (subst (λ y. IsFront (48 ∷ y ∷ ds) found) (sym (eqb-true x 120 both.1)) (front_0x ds (omega arith)))
@@ -267,12 +267,12 @@ front_blank b bs blank =
 
 two_bytes : (b c x y : ℕ) → (nat_eq b x && nat_eq c y) ≡ true → b ∷ c ∷ [] ≡ x ∷ y ∷ []
 two_bytes b c x y e =
-    let both = both_true (nat_eq b x) (nat_eq c y) e in cc (eqb-true b x both.0, eqb-true c y both.1)
+    let both = and_parts (nat_eq b x) (nat_eq c y) e in cc (eqb-true b x both.0, eqb-true c y both.1)
 
 pair_text : (b c : ℕ) → is_pair b c ≡ true → IsPunctText (b ∷ c ∷ [])
 pair_text b c pair =
-    elim (or_true (nat_eq b 58 && nat_eq c 61 || nat_eq b 61 && nat_eq c 62) (nat_eq b 46 && nat_eq c 46) pair) [
-      | inl two ↦ elim (or_true (nat_eq b 58 && nat_eq c 61) (nat_eq b 61 && nat_eq c 62) two)
+    elim (or_cases (nat_eq b 58 && nat_eq c 61 || nat_eq b 61 && nat_eq c 62) (nat_eq b 46 && nat_eq c 46) pair) [
+      | inl two ↦ elim (or_cases (nat_eq b 58 && nat_eq c 61) (nat_eq b 61 && nat_eq c 62) two)
           [ inl one ↦ inl (two_bytes b c 58 61 one) | inr one ↦ inr (inl (two_bytes b c 61 62 one)) ]
       | inr one ↦ inr (inr (inl (two_bytes b c 46 46 one)))
     ]

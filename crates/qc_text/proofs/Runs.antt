@@ -1,16 +1,13 @@
 -- Runs of bytes that pass a test.
-use Rattle.std.proofs.Common.{ℕ, suc, ◌≡◌, ◌+◌, ◌≤◌, ◌&&◌, Bool, true, false, cond, List, [], ◌∷◌, ◌++◌, length, take, refl, arith}
+use Rattle.std.proofs.Common.{ℕ, suc, ◌≡◌, ◌+◌, ◌≤◌, Bool, true, false, cond, List, [], ◌∷◌, ◌++◌, length, take, refl, arith}
+use Rattle.std.proofs.lemmas.Bool.{and_parts}
 use Rattle.std.specs.List.{list_all, prefix_len}
-
-pub both_true : (a b : Bool) → (a && b) ≡ true → (a ≡ true) × (b ≡ true)
-both_true true b e = (refl, e)
-both_true false b e = cc e
 
 -- bytes that pass, at the front, are no more than the longest run
 pub run_covers : (p : ℕ → Bool) (xs ys : List ℕ) → list_all p xs ≡ true → length xs ≤ prefix_len p (xs ++ ys)
 run_covers p [] ys all = omega arith
 run_covers p (x ∷ xs) ys all =
-    let both = both_true (p x) (list_all p xs) all in
+    let both = and_parts (p x) (list_all p xs) all in
     rw both.0 (omega (arith, run_covers p xs ys both.1))
 
 -- and all of it, where a byte follows that doesn't pass
@@ -18,7 +15,7 @@ pub run_ends : (p : ℕ → Bool) (xs : List ℕ) (y : ℕ) (ys : List ℕ) → 
     → prefix_len p (xs ++ y ∷ ys) ≡ length xs
 run_ends p [] y ys all stops = rw stops refl
 run_ends p (x ∷ xs) y ys all stops =
-    let both = both_true (p x) (list_all p xs) all in
+    let both = and_parts (p x) (list_all p xs) all in
     rw both.0 (omega (arith, run_ends p xs y ys both.1 stops))
 
 run_passes_on : (p : ℕ → Bool) (x : ℕ) (xs : List ℕ) (b : Bool) → p x ≡ b

@@ -1,7 +1,6 @@
 -- What the first byte of a piece tells of it.
-use Rattle.std.proofs.Common.{ℕ, ◌≡◌, ◌∙◌, ◌||◌, ◌⊎◌, inl, inr, Bool, true, false, cond, nat_eq, List, [], ◌∷◌, refl, ap, sym, subst, arith}
-use Rattle.std.proofs.lemmas.Bool.{eqb-true}
-use Rattle.qc_text.proofs.Runs.{both_true}
+use Rattle.std.proofs.Common.{ℕ, ◌≡◌, ◌∙◌, ◌⊎◌, inl, inr, true, false, cond, nat_eq, List, [], ◌∷◌, refl, ap, sym, subst, arith}
+use Rattle.std.proofs.lemmas.Bool.{and_parts, eqb-true, or_cases}
 use Rattle.std.proofs.lemmas.Bool.Decides.{nat_tests}
 use Rattle.std.specs.Char.{is_ascii_digit}
 use Rattle.std.specs.List.{list_all, list_any, AllByRecursion}
@@ -43,15 +42,11 @@ pub data Shape (kind : Option Kind) (b : ℕ) (bs : List ℕ) : Sort → Type 0 
   a_mark : kind ≡ Some Punct → bs ≡ [] → Shape kind b bs marks
   a_pair : kind ≡ Some Punct → (c : ℕ) → bs ≡ c ∷ [] → is_pair b c ≡ true → Shape kind b bs marks
 
-pub or_true : (a b : Bool) → (a || b) ≡ true → (a ≡ true) ⊎ (b ≡ true)
-or_true true b e = inl refl
-or_true false b e = inr e
-
 -- what holds of each byte of a list holds of one of them
 pub member : (P : ℕ → Type 0) (xs : List ℕ) (b : ℕ) → list_any (nat_eq b) xs ≡ true → AllByRecursion P xs → P b
 member P [] b e all = cc e
 member P (x ∷ xs) b e all =
-    elim (or_true (nat_eq b x) (list_any (nat_eq b) xs) e)
+    elim (or_cases (nat_eq b x) (list_any (nat_eq b) xs) e)
     [ inl here ↦ subst P (sym (eqb-true b x here)) all.0 | inr there ↦ member P xs b there all.1 ]
 
 pub sort_name : (b : ℕ) → is_name_start b ≡ true → sort_of b ≡ names
@@ -141,7 +136,7 @@ in_sort : (kind : Option Kind) (b : ℕ) (bs : List ℕ) (s : Sort) → sort_of 
 in_sort kind b bs s e shape = subst (Shape kind b bs) (sym e) shape
 
 number_first : (b : ℕ) (bs : List ℕ) → IsNumberText (b ∷ bs) → sort_of b ≡ numbers
-number_first b bs (inl digits) = sort_digit b (both_true _ _ digits.1).0
+number_first b bs (inl digits) = sort_digit b (and_parts _ _ digits.1).0
 number_first b bs (inr hexadecimal) =
     let same : b ≡ 48 = cc hexadecimal.2 in ap sort_of same ∙ sort_zero
 

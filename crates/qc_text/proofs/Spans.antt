@@ -4,6 +4,7 @@ use Rattle.std.proofs.Math.Seq.{take-append_seam, drop-append_seam}
 use Rattle.std.proofs.lemmas.List.Elements.{All-from_recursion}
 use Rattle.std.specs.List.{AllByRecursion, All, slice_range}
 use Rattle.std.specs.Prelude.{Option, None, Some, slice_get}
+use Rattle.qc_lists.specs.Law.Lists.{each_append}
 use Rattle.qc_text.specs.declared.token.Kind.{Kind}
 use Rattle.qc_text.specs.declared.token.Kind.TheVariants.{Name, Prim, Number, Str, Punct, End}
 use Rattle.qc_text.specs.declared.token.Token.{Token}
@@ -26,12 +27,13 @@ earlier file at before le (t ∷ tokens) all = (
 )
 
 -- the bytes between two places
-between : (file front text after : List ℕ) → file ≡ front ++ (text ++ after)
-    → slice_range file (length front) (length front + length text) ≡ text
-between file front text after e =
-    let size : length front + length text - length front ≡ length text = omega arith in
-    ap (λ n. take n (drop (length front) file)) size
-    ∙ ap (λ xs. take (length text) (drop (length front) xs)) e
+pub between : (file front text after : List ℕ) (at : ℕ) → at ≡ length front → file ≡ front ++ (text ++ after)
+    → slice_range file at (at + length text) ≡ text
+between file front text after at place e =
+    let size : at + length text - at ≡ length text = omega arith in
+    ap (λ n. take n (drop at file)) size
+    ∙ ap (λ xs. take (length text) (drop at xs)) e
+    ∙ ap (λ n. take (length text) (drop n (front ++ (text ++ after)))) place
     ∙ ap (take (length text)) (drop-append_seam front (text ++ after))
     ∙ take-append_seam text after
 
@@ -44,15 +46,10 @@ one_stands file front after (Some kind) text e is = (
     later = omega arith;
     order = omega arith;
     inside = omega (arith, ap length e, length-append front (text ++ after), length-append text after);
-    text = subst (IsTokenText kind) (sym (between file front text after e)) is.0;
+    text = subst (IsTokenText kind) (sym (between file front text after (length front) refl e)) is.0;
   },
   tt,
 )
-
-both_parts : (P : Token → Type 0) (xs ys : List Token) → AllByRecursion P xs → AllByRecursion P ys
-    → AllByRecursion P (xs ++ ys)
-both_parts P [] ys all more = more
-both_parts P (x ∷ xs) ys all more = (all.0, both_parts P xs ys all.1 more)
 
 end_stands : (file : List ℕ) → Stands file (length file) (record { kind = End; start = length file; end = length file })
 end_stands file = let none : length file - length file ≡ 0 = omega arith in
@@ -79,7 +76,7 @@ all_stand file front bytes at (piece ∷ pieces) e place cut =
     let rest = all_stand file (front ++ piece.text) cut.0 (at + length piece.text) pieces
     (split ∙ sym (append_assoc front piece.text cut.0))
     (omega (arith, place, length-append front piece.text)) cut.2 in
-    both_parts (Stands file at) (token_at at piece.kind (at + length piece.text))
+    each_append (Stands file at) (token_at at piece.kind (at + length piece.text))
     (tokens_of (at + length piece.text) pieces) first
     (earlier file (at + length piece.text) at (omega arith) (tokens_of (at + length piece.text) pieces) rest)
 
@@ -174,7 +171,7 @@ ends_on file front bytes at (piece ∷ pieces) e place cut =
     (omega (arith, place, length-append front piece.text)) cut.2 in (
       first ++ rest.0,
       ap (λ ts. first ++ ts) rest.1 ∙ sym (append_assoc first rest.0 (token_at (length file) (Some End) (length file))),
-      both_parts (λ t. t.kind ≢ End) first rest.0 (not_end at (at + length piece.text) piece.kind piece.text cut.1.is)
+      each_append (λ t. t.kind ≢ End) first rest.0 (not_end at (at + length piece.text) piece.kind piece.text cut.1.is)
           rest.2,
     )
 

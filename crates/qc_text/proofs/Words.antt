@@ -1,8 +1,9 @@
 -- Words with a blank after each are cut into these words.
-use Rattle.std.proofs.Common.{ℕ, suc, ◌≡◌, ◌≢◌, ◌∙◌, ◌+◌, ◌-◌, ◌≤◌, ◌&&◌, inl, inr, Bool, true, false, nat_eq, List, [], ◌∷◌, ◌++◌, length, take, drop, refl, ap, sym, subst, arith, append_assoc, length-append}
-use Rattle.std.proofs.Math.Seq.{take-append_seam, drop-append_seam}
+use Rattle.std.proofs.Common.{ℕ, suc, ◌≡◌, ◌≢◌, ◌∙◌, ◌+◌, ◌-◌, ◌≤◌, inl, inr, Bool, true, false, nat_eq, List, [], ◌∷◌, ◌++◌, length, take, drop, refl, ap, sym, subst, arith, append_assoc, length-append}
+use Rattle.std.proofs.Math.Bool.{and-false}
+use Rattle.std.proofs.lemmas.Bool.{and_parts}
 use Rattle.std.specs.Char.{is_ascii_digit, is_ascii_hexdigit}
-use Rattle.std.specs.List.{list_all, slice_range}
+use Rattle.std.specs.List.{list_all}
 use Rattle.std.specs.Prelude.{Option, None, Some, codes}
 use Rattle.qc_text.specs.declared.token.Kind.{Kind}
 use Rattle.qc_text.specs.declared.token.Kind.TheVariants.{End}
@@ -11,7 +12,7 @@ use Rattle.qc_text.specs.Tokens.{is_name_start, is_name_part, is_string_byte, Is
 use Rattle.qc_text.specs.Pieces.{Piece, IsPieceText, IsFirst, AreCut, tokens_of, AreTokens}
 use Rattle.qc_text.specs.Inner.Scanning.{is_pair}
 use Rattle.qc_text.specs.PrintedWords.{spaced, AreWords, texts_of, words_in}
-use Rattle.qc_text.proofs.Runs.{both_true}
+use Rattle.qc_text.proofs.Spans.{between}
 use Rattle.qc_text.proofs.Shapes.{Sort, names, numbers, prims, strings, slashes, blanks, marks, others, sort_of, Shape, a_name, a_number, a_prim, a_string, a_slash, a_comment, a_blank, a_mark, a_pair, shape, sort_blank, sort_slash}
 
 heads : (x y : ℕ) (xs ys : List ℕ) → x ∷ xs ≡ y ∷ ys → x ≡ y
@@ -22,9 +23,9 @@ stops : (p : ℕ → Bool) (more : List ℕ) (y : ℕ) (ys text after : List ℕ
     → more ++ y ∷ ys ≡ text ++ after → length text ≤ length more
 stops p more y ys [] after fails all e = omega arith
 stops p [] y ys (x ∷ text) after fails all e =
-    let same : y ≡ x = cc e in cc (ap p same, fails, (both_true (p x) (list_all p text) all).0)
+    let same : y ≡ x = cc e in cc (ap p same, fails, (and_parts (p x) (list_all p text) all).0)
 stops p (m ∷ more) y ys (x ∷ text) after fails all e =
-    omega (arith, stops p more y ys text after fails (both_true (p x) (list_all p text) all).1 (cc e))
+    omega (arith, stops p more y ys text after fails (and_parts (p x) (list_all p text) all).1 (cc e))
 
 hexadecimal_most : (more rest digits after : List ℕ) → list_all is_ascii_hexdigit digits ≡ true
     → more ++ 32 ∷ rest ≡ (120 ∷ digits) ++ after → suc (length digits) ≤ length more
@@ -35,7 +36,7 @@ hexadecimal_most (m ∷ more) rest digits after all e =
 number_most : (b : ℕ) (more rest text after : List ℕ) → IsNumberText (b ∷ text) → more ++ 32 ∷ rest ≡ text ++ after
     → length text ≤ length more
 number_most b more rest text after (inl digits) e =
-    stops is_ascii_digit more 32 rest text after refl (both_true _ _ digits.1).1 e
+    stops is_ascii_digit more 32 rest text after refl (and_parts _ _ digits.1).1 e
 number_most b more rest text after (inr (digits, are, same)) e =
     let behind : text ≡ 120 ∷ digits = cc same in
     omega (arith, ap length behind, hexadecimal_most more rest digits after are.1 (e ∙ ap (λ xs. xs ++ after) behind))
@@ -73,12 +74,8 @@ no_comment_text b text after rest (inr block) e =
     let behind : text ≡ 42 ∷ block.0 ++ codes "*/" = cc block.2 in
     omega (arith, heads 32 42 rest ((block.0 ++ codes "*/") ++ after) (e ∙ ap (λ xs. xs ++ after) behind))
 
-and_false : (x : Bool) → (x && false) ≡ false
-and_false true = refl
-and_false false = refl
-
 no_pair : (b : ℕ) → is_pair b 32 ≡ false
-no_pair b = rw (and_false (nat_eq b 58)) (rw (and_false (nat_eq b 61)) (rw (and_false (nat_eq b 46)) refl))
+no_pair b = rw (and-false (nat_eq b 58)) (rw (and-false (nat_eq b 61)) (rw (and-false (nat_eq b 46)) refl))
 
 -- no piece that begins as a word does is longer, where a blank follows the word
 most : (kind : Kind) (other : Option Kind) (b : ℕ) (more rest text after : List ℕ) (s : Sort)
@@ -177,17 +174,6 @@ are_cut (word ∷ words) all =
           (word_first word.0 word.1 rest all.0 all.1),
       (rest, blank_first rest, are_cut words all.2),
     )
-
--- the bytes between two places
-between : (file front text after : List ℕ) (at : ℕ) → at ≡ length front → file ≡ front ++ (text ++ after)
-    → slice_range file at (at + length text) ≡ text
-between file front text after at place e =
-    let size : at + length text - at ≡ length text = omega arith in
-    ap (λ n. take n (drop at file)) size
-    ∙ ap (λ xs. take (length text) (drop at xs)) e
-    ∙ ap (λ n. take (length text) (drop n (front ++ (text ++ after)))) place
-    ∙ ap (take (length text)) (drop-append_seam front (text ++ after))
-    ∙ take-append_seam text after
 
 texts_are : (file front : List ℕ) (at : ℕ) (words : List (Kind × List ℕ)) → file ≡ front ++ spaced (texts_of words)
     → at ≡ length front → words_in file (tokens_of at (pieces_of words)) ≡ words ++ (End, []) ∷ []

@@ -5,13 +5,13 @@ use Rattle.qc_words.specs.declared.operator.Op.{Op}
 use Rattle.qc_grammar.specs.declared.cursor.Number.{Number}
 use Rattle.qc_terms.specs.declared.term.Term.{Term}
 use Rattle.qc_terms.specs.declared.term.Term.TheVariants as term
-use Rattle.qc_terms.specs.Tree.{Tree, Number as Literal, Unary, Binary, Register, Immediate, Load, NextInput, AddressAfter, tree_of, nodes_of}
-use Rattle.qc_widths.specs.declared.faults.WidthFault.{WidthFault}
+use Rattle.qc_terms.specs.Tree.{Tree, Number as Literal, tree_of, nodes_of}
+use Rattle.qc_facts.specs.declared.faults.WidthFault.{WidthFault}
 use Rattle.qc_widths.specs.declared.value.Value.{Value}
-use Rattle.qc_widths.specs.Faults.{reported, reported_of_both, token_of, rank_of}
-use Rattle.qc_widths.specs.Numbers.{is_empty, access_width, access_faults}
-use Rattle.qc_widths.specs.Values as values
-use Rattle.qc_widths.specs.Values.{bits_of}
+use Rattle.qc_facts.specs.Faults.{reported, reported_of_both, token_of, rank_of}
+use Rattle.qc_facts.specs.Numbers.{is_empty, access_width, access_faults}
+use Rattle.qc_facts.specs.Values as values
+use Rattle.qc_facts.specs.Values.{bits_of}
 use Rattle.qc_widths.specs.Inner.KeptValues.{seen, nodes_in}
 use Rattle.qc_names.specs.Law.Reported.{reported-append}
 use Rattle.qc_widths.proofs.Seen.{Parts, mem_counted, un_counted, bin_counted}

@@ -9,13 +9,14 @@ use Rattle.qc_lists.specs.Law.Lists.{each_append}
 use Rattle.qc_lrtl.specs.declared.syntax.Item.{Item}
 use Rattle.qc_lrtl.specs.declared.syntax.Item.TheVariants as fact
 use Rattle.qc_lrtl.specs.declared.syntax.RawMachine.{RawMachine}
-use Rattle.qc_widths.specs.declared.facts.SpaceFacts.{SpaceFacts}
-use Rattle.qc_widths.specs.declared.faults.WidthFault.{WidthFault}
-use Rattle.qc_widths.specs.Faults.{reported}
-use Rattle.qc_widths.specs.Numbers.{width_in, width_faults}
-use Rattle.qc_widths.specs.Values.{bits_of}
-use Rattle.qc_widths.specs.Scopes.{Facts, Signature, Meaning}
-use Rattle.qc_widths.specs.Declarations.{word_in, space_of_item, spaces_in, facts_in, signature_of_item, meanings_in, instruction_name, space_name}
+use Rattle.qc_facts.specs.declared.facts.SpaceFacts.{SpaceFacts}
+use Rattle.qc_facts.specs.declared.faults.WidthFault.{WidthFault}
+use Rattle.qc_facts.specs.Faults.{reported}
+use Rattle.qc_facts.specs.Numbers.{width_in, width_faults}
+use Rattle.qc_facts.specs.Values.{bits_of}
+use Rattle.qc_facts.specs.Facts.{Facts, word_in, space_of_item, spaces_in, facts_in}
+use Rattle.qc_resolve.specs.Scopes.{Signature, Meaning}
+use Rattle.qc_resolve.specs.Declarations.{signature_of_item, meanings_in, instruction_name, space_name}
 use Rattle.qc_widths.proofs.Typed.{IsComplete}
 use Rattle.qc_widths.proofs.TypedNodes.{none_of, is_width}
 use Rattle.qc_widths.proofs.GoodTable.{IsSettled, settled}

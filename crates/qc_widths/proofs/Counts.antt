@@ -7,16 +7,16 @@ use Rattle.std.proofs.lemmas.Bool.{or_parts}
 use Rattle.std.proofs.lemmas.Grind.{common_steps}
 use Rattle.std.proofs.lemmas.List.{map-append}
 use Rattle.std.proofs.lemmas.Slice.Eq.{bytes_eq-Decides}
-use Rattle.qc_widths.specs.TextFaults.{more_than}
-use Rattle.qc_widths.specs.TextFaults.{repeated_after}
+use Rattle.qc_widths.specs.TextFaults.{more_than, repeated_after}
 use Rattle.qc_lists.specs.Law.Lists.{each_of_append}
 use Rattle.qc_descr.specs.Names.{AreDistinct}
 use Rattle.qc_grammar.specs.declared.cursor.Ident.{Ident}
 use Rattle.qc_lrtl.specs.declared.syntax.Item.{Item}
 use Rattle.qc_lrtl.specs.declared.syntax.Item.TheVariants as fact
-use Rattle.qc_widths.specs.declared.faults.WidthFault.{WidthFault}
-use Rattle.qc_widths.specs.declared.faults.WidthFault.TheVariants.{TwiceNamed}
-use Rattle.qc_widths.specs.Declarations.{space_of_item, spaces_in, space_name}
+use Rattle.qc_facts.specs.declared.faults.WidthFault.{WidthFault}
+use Rattle.qc_facts.specs.declared.faults.WidthFault.TheVariants.{TwiceNamed}
+use Rattle.qc_facts.specs.Facts.{space_of_item, spaces_in}
+use Rattle.qc_resolve.specs.Declarations.{space_name}
 use Rattle.qc_widths.proofs.TypedNodes.{none_of}
 
 pub within_limit : (limit token count : ℕ) → more_than limit token count ≡ [] → count ≤ limit

@@ -2,9 +2,8 @@
 use Rattle.std.specs.Prelude.{ℕ, zero, suc, ◌≡◌, ◌+◌, ◌<◌, ◌≤◌, true, false, List, [], ◌∷◌, ◌++◌, length, map, take, slice_get, None, Some}
 use Rattle.std.specs.List.{flat_map}
 use Rattle.std.proofs.Common.{refl, ap, sym, subst, ◌∙◌, arith, add-zero, append_assoc, length-append, ◌⊎◌, inl, inr}
-use Rattle.std.proofs.lemmas.List.{append-nil, length-map}
+use Rattle.std.proofs.lemmas.List.{append-nil, length-map, map-append}
 use Rattle.std.proofs.Math.Seq.{take-append_seam}
-use Rattle.std.proofs.lemmas.List.{map-append}
 use Rattle.qc_lists.specs.Law.Lists.{slice_get-append_right}
 use Rattle.qc_grammar.specs.declared.cursor.Ident.{Ident}
 use Rattle.qc_lrtl.specs.declared.syntax.Effect.{Effect}
@@ -12,9 +11,10 @@ use Rattle.qc_lrtl.specs.declared.syntax.Expr.{Expr}
 use Rattle.qc_lrtl.specs.declared.syntax.Param.{Param}
 use Rattle.qc_lrtl.specs.declared.syntax.Item.{Item}
 use Rattle.qc_lrtl.specs.declared.syntax.Item.TheVariants as fact
-use Rattle.qc_widths.specs.Scopes.{Facts, Meaning, named, placed_from}
+use Rattle.qc_facts.specs.Facts.{Facts, named, placed_from, place_of}
+use Rattle.qc_resolve.specs.Scopes.{Meaning}
 use Rattle.qc_widths.proofs.Places.{placed_map, placed_named, placed_taken, placed_late, unplaced_named}
-use Rattle.qc_widths.specs.Declarations.{function_item, function_items, function_name, meaning_of_function, meaning_of_effects, meaning_of_item, meanings_after, meanings_in, place_of, place_of_function}
+use Rattle.qc_resolve.specs.Declarations.{function_item, function_items, function_name, meaning_of_function, meaning_of_effects, meaning_of_item, meanings_after, meanings_in, place_of_function}
 
 -- an item declares one function and means it, or none
 pub record One (facts : Facts) (earlier : List Meaning) (item : Item) : Type 0 where

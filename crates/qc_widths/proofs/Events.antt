@@ -13,14 +13,15 @@ use Rattle.qc_lrtl.specs.declared.syntax.Expr.{Expr}
 use Rattle.qc_lrtl.specs.declared.syntax.Guard.{Guard}
 use Rattle.qc_lrtl.specs.declared.syntax.Effect.{Effect}
 use Rattle.qc_lrtl.specs.declared.syntax.Simple.{Simple}
-use Rattle.qc_lrtl.specs.declared.syntax.Simple.TheVariants.{Pc, Out, Halt, Trap, Mem, Name, Cell, Use}
-use Rattle.qc_widths.specs.declared.facts.Local.{Local}
-use Rattle.qc_widths.specs.declared.facts.Target.{Target}
-use Rattle.qc_widths.specs.Values.{Value}
-use Rattle.qc_widths.specs.Scopes.{Act, Bound, Signature, Meaning, Scope, Names, named, local_bound, bound_in, local_in, meaning_in, takes, operator_named, cell_named}
-use Rattle.qc_widths.specs.Expressions.{Expression, expression_of, value_of, target_of, bindings}
-use Rattle.qc_widths.specs.Effects.{act_on, acts_of_meaning, acts_of_simple, guarded, acts_under, acts_of_effect, acts_of, effects_of, events_of, simple_events, effect_events}
-use Rattle.qc_widths.specs.Declarations.{signatures_of}
+use Rattle.qc_lrtl.specs.declared.syntax.Simple.TheVariants.{Name, Cell, Use}
+use Rattle.qc_facts.specs.declared.facts.Local.{Local}
+use Rattle.qc_facts.specs.declared.facts.Target.{Target}
+use Rattle.qc_facts.specs.Values.{Value}
+use Rattle.qc_resolve.specs.Scopes.{Act, Bound, Signature, Meaning, Scope, Names, local_bound, bound_in, local_in, meaning_in, takes}
+use Rattle.qc_facts.specs.Facts.{named, operator_named, cell_named}
+use Rattle.qc_resolve.specs.Expressions.{Expression, expression_of, value_of, target_of, bindings}
+use Rattle.qc_resolve.specs.Effects.{act_on, acts_of_meaning, acts_of_simple, guarded, acts_under, acts_of_effect, acts_of, effects_of, events_of, simple_events, effect_events}
+use Rattle.qc_resolve.specs.Declarations.{signatures_of}
 use Rattle.qc_widths.proofs.Typed.{count_events, TellsEvents}
 use Rattle.qc_widths.proofs.TypedNodes.{by_conds}
 use Rattle.qc_widths.proofs.Fine.{named_of_map, named_is}

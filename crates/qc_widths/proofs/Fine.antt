@@ -7,18 +7,19 @@ use Rattle.std.proofs.Common.{refl, ap, sym, ◌∙◌, subst, arith}
 use Rattle.std.proofs.lemmas.Grind.{common_steps}
 use Rattle.std.proofs.lemmas.List.{length-map}
 use Rattle.std.proofs.lemmas.List.Elements.{recursion_from_All, All-from_recursion}
-use Rattle.qc_widths.specs.Faults.{unknown_unless}
+use Rattle.qc_facts.specs.Faults.{unknown_unless}
 use Rattle.qc_words.specs.declared.operator.Op.{Op}
 use Rattle.qc_terms.specs.State.{Context}
 use Rattle.qc_descr.specs.declared.description.OperandKind.{OperandKind}
 use Rattle.qc_grammar.specs.declared.cursor.Ident.{Ident}
-use Rattle.qc_widths.specs.declared.faults.WidthFault.{WidthFault}
-use Rattle.qc_widths.specs.declared.faults.WidthFault.TheVariants.{UnknownName}
-use Rattle.qc_widths.specs.declared.facts.Local.{Local}
-use Rattle.qc_widths.specs.declared.facts.Local.TheVariants.{Plain as plain, Applied as applied}
-use Rattle.qc_widths.specs.Values.{Value, faulty, operator_at}
-use Rattle.qc_widths.specs.Scopes.{Bound, argument, operand, function, Signature, Meaning, Scope, Names, named, local_bound, bound_in, local_in, meaning_in, signature_in, is_plain, takes, operator_named, operands_of}
-use Rattle.qc_widths.specs.Expressions.{Expression, value_of_bound, target_of_bound, target_of, function_of, function_of_meaning, function_of_operator, function_of_bound, bindings, use_of, use_of_meaning, use_of_operator, use_of_bound, alone_faults, is_function, is_function_of_signature, is_function_of_operator, is_function_of_local, plain_faults, argument_faults, use_faults, use_faults_of_signature, use_faults_of_operator, use_faults_of_local}
+use Rattle.qc_facts.specs.declared.faults.WidthFault.{WidthFault}
+use Rattle.qc_facts.specs.declared.faults.WidthFault.TheVariants.{UnknownName}
+use Rattle.qc_facts.specs.declared.facts.Local.{Local}
+use Rattle.qc_facts.specs.declared.facts.Local.TheVariants.{Plain as plain, Applied as applied}
+use Rattle.qc_facts.specs.Values.{Value, faulty, operator_at}
+use Rattle.qc_resolve.specs.Scopes.{Bound, argument, operand, function, Signature, Meaning, Scope, Names, local_bound, bound_in, local_in, meaning_in, signature_in, is_plain, takes}
+use Rattle.qc_facts.specs.Facts.{named, operator_named, operands_of}
+use Rattle.qc_resolve.specs.Expressions.{Expression, value_of_bound, target_of_bound, target_of, function_of, function_of_meaning, function_of_operator, function_of_bound, bindings, use_of, use_of_meaning, use_of_operator, use_of_bound, alone_faults, is_function, is_function_of_signature, is_function_of_operator, is_function_of_local, plain_faults, argument_faults, use_faults, use_faults_of_signature, use_faults_of_operator, use_faults_of_local}
 use Rattle.qc_widths.proofs.Typed.{IsGood, IsTypedTarget, IsGoodBound, SuitParams, IsGoodMeaning, IsGoodScope, MatchesLocal, MatchLocals, Matches}
 use Rattle.qc_widths.proofs.TypedNodes.{none_of, by_cond, by_conds}
 use Rattle.qc_widths.proofs.PlainOperators.{IsPlain, plain_operator, good_operator}

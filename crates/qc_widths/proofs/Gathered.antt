@@ -13,14 +13,14 @@ use Rattle.qc_terms.specs.declared.term.Term.{Term}
 use Rattle.qc_terms.specs.Tree.{tree_of, nodes_of}
 use Rattle.qc_descr.specs.Valid.{nodes_of_dest, nodes_of_guard}
 use Rattle.qc_grammar.specs.declared.cursor.Number.{Number}
-use Rattle.qc_widths.specs.declared.faults.WidthFault.{WidthFault}
+use Rattle.qc_facts.specs.declared.faults.WidthFault.{WidthFault}
 use Rattle.qc_widths.specs.declared.acts.Acts.TheVariants.{Huge, Known}
-use Rattle.qc_widths.specs.Effects.{act_of, act_on_memory, clashes_of_act, effect_of, guarded, joined}
-use Rattle.qc_widths.specs.Faults.{reported, reported_of_both, token_of, rank_of}
-use Rattle.qc_widths.specs.Numbers.{access_width}
-use Rattle.qc_widths.specs.Scopes.{Act}
-use Rattle.qc_widths.specs.Values as values
-use Rattle.qc_widths.specs.Values.{bits_of}
+use Rattle.qc_resolve.specs.Effects.{act_of, act_on_memory, clashes_of_act, effect_of, guarded, joined}
+use Rattle.qc_facts.specs.Faults.{reported, reported_of_both, token_of, rank_of}
+use Rattle.qc_facts.specs.Numbers.{access_width}
+use Rattle.qc_resolve.specs.Scopes.{Act}
+use Rattle.qc_facts.specs.Values as values
+use Rattle.qc_facts.specs.Values.{bits_of}
 use Rattle.qc_widths.specs.Inner.KeptValues.{nodes_in}
 use Rattle.qc_widths.specs.Inner.KeptEffects.{seen_acts, nodes_in_acts, under, more_under, nodes_under}
 use Rattle.qc_names.specs.Law.Reported.{reported-append, both_assoc}

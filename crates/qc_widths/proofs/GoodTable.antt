@@ -16,10 +16,11 @@ use Rattle.qc_lrtl.specs.declared.syntax.Effect.{Effect}
 use Rattle.qc_lrtl.specs.declared.syntax.Param.{Param}
 use Rattle.qc_lrtl.specs.declared.syntax.Item.{Item}
 use Rattle.qc_lrtl.specs.declared.syntax.Item.TheVariants as fact
-use Rattle.qc_widths.specs.Scopes.{Bound, argument, operand, function, Facts, Signature, Meaning, Names, named, local_bound}
-use Rattle.qc_widths.specs.Expressions.{faults_in}
-use Rattle.qc_widths.specs.Effects.{acts_of, effect_faults, effect_targets}
-use Rattle.qc_widths.specs.Declarations.{arity_of, local_of_arity, locals_of_params, bound_params, names_for, scope_for, targets_of_param, signature_of_item, signatures_of, meaning_of_function, meaning_of_effects, meaning_of_item, meanings_after, instruction_name, space_name}
+use Rattle.qc_resolve.specs.Scopes.{Bound, argument, operand, function, Signature, Meaning, Names, local_bound}
+use Rattle.qc_facts.specs.Facts.{Facts, named}
+use Rattle.qc_resolve.specs.Expressions.{faults_in}
+use Rattle.qc_resolve.specs.Effects.{acts_of, effect_faults, effect_targets}
+use Rattle.qc_resolve.specs.Declarations.{arity_of, local_of_arity, locals_of_params, bound_params, names_for, scope_for, targets_of_param, signature_of_item, signatures_of, meaning_of_function, meaning_of_effects, meaning_of_item, meanings_after, instruction_name, space_name}
 use Rattle.qc_widths.proofs.Typed.{IsComplete, IsGoodBound, SuitsParam, SuitParams, IsGoodMeaning, IsGoodScope, MatchesLocal, MatchLocals, TellsEvents, IsGoodAct}
 use Rattle.qc_widths.proofs.TypedNodes.{none_of}
 use Rattle.qc_widths.proofs.Typing.{fine}

@@ -4,7 +4,8 @@ use Rattle.std.specs.List.{flat_map}
 use Rattle.std.proofs.Common.{refl, ap, sym, ◌∙◌, arith, append_assoc, length-append, length-take-le}
 use Rattle.std.proofs.Math.Seq.{take-append_seam}
 use Rattle.std.proofs.lemmas.List.{append-nil}
-use Rattle.qc_widths.specs.TextFaults.{repeated, kind_faults, acts_of_instruction, limit_faults, clashes_within, instruction_faults, faults_after}
+use Rattle.qc_widths.specs.TextFaults.{repeated, acts_of_instruction, limit_faults, clashes_within, instruction_faults, faults_after}
+use Rattle.qc_facts.specs.Facts.{kind_faults, Facts}
 use Rattle.qc_lrtl.specs.declared.syntax.Item.{Item}
 use Rattle.qc_lrtl.specs.declared.syntax.Item.TheVariants as fact
 use Rattle.qc_lrtl.specs.declared.syntax.Effect.{Effect}
@@ -12,14 +13,14 @@ use Rattle.qc_lrtl.specs.declared.syntax.Operand.{Operand}
 use Rattle.qc_descr.specs.declared.parts.Operation.{Operation}
 use Rattle.qc_widths.specs.declared.context.Context.{Context}
 use Rattle.qc_widths.specs.declared.progress.Progress.{Progress}
-use Rattle.qc_widths.specs.declared.faults.WidthFault.{WidthFault}
-use Rattle.qc_widths.specs.declared.faults.WidthFault.TheVariants.{TwiceNamed}
-use Rattle.qc_widths.specs.Faults.{reported_of_two, reported_of_both, reported, token_of, rank_of}
-use Rattle.qc_widths.specs.Scopes.{Facts, Names, Signature}
-use Rattle.qc_widths.specs.Effects.{effect_faults, effect_events}
-use Rattle.qc_widths.specs.Declarations.{function_name, instruction_name, space_name, signature_of_item, signatures_after, meanings_in, locals_of_operands, names_for}
+use Rattle.qc_facts.specs.declared.faults.WidthFault.{WidthFault}
+use Rattle.qc_facts.specs.declared.faults.WidthFault.TheVariants.{TwiceNamed}
+use Rattle.qc_facts.specs.Faults.{reported_of_two, reported_of_both, reported, token_of, rank_of}
+use Rattle.qc_resolve.specs.Scopes.{Names, Signature}
+use Rattle.qc_resolve.specs.Effects.{effect_faults, effect_events}
+use Rattle.qc_resolve.specs.Declarations.{function_name, instruction_name, space_name, signature_of_item, signatures_after, meanings_in, locals_of_operands, names_for}
 use Rattle.qc_widths.specs.Inner.Elaboration.{names_of_operands, all_signatures, counts_behind, faults_of_item, faults_behind, operations_of_item, OperationsUnless, IsBehind}
-use Rattle.qc_widths.proofs.Earlier.{signatures-length, signatures-of-meanings}
+use Rattle.qc_resolve.specs.Law.Earlier.{signatures-length, signatures-of-meanings}
 use Rattle.qc_names.specs.Law.Reported.{reported-append, both_assoc}
 
 -- five lists, of which two are reported together

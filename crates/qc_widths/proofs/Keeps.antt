@@ -6,12 +6,11 @@ use Rattle.std.proofs.lemmas.Option.{IfSome_then}
 use Rattle.std.proofs.lemmas.Grind.{common_steps}
 use Rattle.std.proofs.lemmas.List.{length-append, length-map, map-append}
 use Rattle.std.proofs.lemmas.List.Elements.{All-from_recursion, recursion_from_All}
-use Rattle.qc_widths.specs.TextFaults.{more_than}
-use Rattle.qc_widths.specs.TextFaults.{repeated_after, repeated, single_item, second_singles, second_declarations, kind_faults, acts_of_instruction, rtl_of, limit_faults, clashes_within, instruction_faults, item_faults, faults_after, faults_of}
+use Rattle.qc_widths.specs.TextFaults.{more_than, repeated_after, repeated, single_item, second_singles, second_declarations, acts_of_instruction, rtl_of, limit_faults, clashes_within, instruction_faults, item_faults, faults_after, faults_of}
+use Rattle.qc_facts.specs.Facts.{kind_faults, Facts, space_named, number_faults, cell_faults, operators, word_in, space_of_item, spaces_in, facts_in, facts_of_operand, register_of}
 use Rattle.qc_widths.specs.GivenFacts.{first_given, space_index, given_cell, word_given, zero_given, frame_given, link_given, allocatable_given, given_in}
 use Rattle.std.specs.Option.{option_or, option_flatten}
 use Rattle.qc_terms.specs.State.{Context}
-use Rattle.qc_descr.specs.declared.description.OperandKind.{OperandKind}
 use Rattle.qc_descr.specs.declared.description.Space.{Space}
 use Rattle.qc_lists.specs.Law.Lists.{each_append}
 use Rattle.qc_descr.specs.Names.{AreDistinct, IsName}
@@ -25,17 +24,17 @@ use Rattle.qc_lrtl.specs.declared.syntax.OperandKind.TheVariants.{Register, Imme
 use Rattle.qc_lrtl.specs.declared.syntax.Item.{Item}
 use Rattle.qc_lrtl.specs.declared.syntax.Item.TheVariants as fact
 use Rattle.qc_lrtl.specs.declared.syntax.RawMachine.{RawMachine}
-use Rattle.qc_widths.specs.declared.facts.SpaceFacts.{SpaceFacts}
-use Rattle.qc_widths.specs.declared.faults.WidthFault.{WidthFault}
-use Rattle.qc_widths.specs.declared.faults.WidthFault.TheVariants.{TwiceNamed, UnknownName}
-use Rattle.qc_widths.specs.Faults.{reported, unknown_unless}
-use Rattle.qc_widths.specs.Numbers.{width_in, width_faults}
-use Rattle.qc_widths.specs.Values.{bits_of}
-use Rattle.qc_widths.specs.Scopes.{Facts, Signature, Meaning, Act, Names, space_named, number_faults, cell_faults, operators}
-use Rattle.qc_widths.specs.Effects.{effect_of, effect_faults, effect_events}
+use Rattle.qc_facts.specs.declared.facts.SpaceFacts.{SpaceFacts}
+use Rattle.qc_facts.specs.declared.faults.WidthFault.{WidthFault}
+use Rattle.qc_facts.specs.declared.faults.WidthFault.TheVariants.{TwiceNamed, UnknownName}
+use Rattle.qc_facts.specs.Faults.{reported, unknown_unless}
+use Rattle.qc_facts.specs.Numbers.{width_in, width_faults}
+use Rattle.qc_facts.specs.Values.{bits_of}
+use Rattle.qc_resolve.specs.Scopes.{Signature, Meaning, Act, Names}
+use Rattle.qc_resolve.specs.Effects.{effect_of, effect_faults, effect_events}
 use Rattle.qc_descr.specs.Valid.{EffectNames, nodes_of_rtl}
 use Rattle.qc_terms.specs.Typing.{IsTypedRtl}
-use Rattle.qc_widths.specs.Declarations.{word_in, space_of_item, spaces_in, facts_in, facts_of_operand, register_of, locals_of_operands, names_for, signatures_of, signature_of_item, meanings_in, instruction_name, space_name, function_name}
+use Rattle.qc_resolve.specs.Declarations.{locals_of_operands, names_for, signatures_of, signature_of_item, meanings_in, instruction_name, space_name, function_name}
 use Rattle.qc_widths.specs.Machine.{kind_of, space_of, operation_of_item, machine_of}
 use Rattle.qc_widths.proofs.Typed.{IsComplete}
 use Rattle.qc_widths.proofs.TypedNodes.{none_of, is_width}

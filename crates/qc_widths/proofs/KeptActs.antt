@@ -1,13 +1,12 @@
 -- What is kept of effects tells whether they pass the limit of nodes, and what they are where they don't.
 use Rattle.std.specs.Prelude.{◌≡◌, List}
-use Rattle.std.proofs.Common.{sym, subst, arith}
+use Rattle.std.proofs.Common.{sym, subst, arith, inl, inr}
 use Rattle.std.proofs.lemmas.Bool.{cases_lt}
-use Rattle.std.proofs.Common.{inl, inr}
 use Rattle.std.proofs.lemmas.Grind.{common_steps}
 use Rattle.qc_widths.specs.declared.acts.Acts.{Acts}
 use Rattle.qc_widths.specs.Inner.Elaboration.{AreActs}
 use Rattle.qc_widths.specs.Inner.KeptEffects.{seen_acts, nodes_in_acts}
-use Rattle.qc_widths.specs.Scopes.{Act}
+use Rattle.qc_resolve.specs.Scopes.{Act}
 
 seen_are : (acts : List Act) → AreActs acts (seen_acts acts)
 unfolding seen_acts

@@ -1,12 +1,3 @@
-pub mod Halvings
-pub mod Written
-pub mod Lookups
-pub mod Paired
-pub mod Kept
-pub mod ArgumentLists
-pub mod Earlier
-pub mod Tables
-pub mod Numbered
 pub mod Singles
 pub mod ItemByItem
 pub mod NoFault
@@ -16,7 +7,6 @@ pub mod Places
 pub mod Declared
 pub mod Falling
 pub mod Using
-pub mod Laws
 pub mod Gathered
 pub mod Typed
 pub mod TypedNodes

@@ -13,9 +13,8 @@ use Rattle.qc_lrtl.specs.declared.syntax.Item.{Item}
 use Rattle.qc_lrtl.specs.declared.syntax.Item.TheVariants as fact
 use Rattle.qc_lrtl.specs.LambdaRtl.{reserved}
 use Rattle.qc_lrtl.specs.Named.{IsName as IsTextName, IsNamedItem, IsNamedOperand}
-use Rattle.qc_widths.specs.Declarations.{space_of_item, spaces_in, facts_of_operand}
+use Rattle.qc_facts.specs.Facts.{space_of_item, spaces_in, facts_of_operand, Facts}
 use Rattle.qc_widths.specs.Machine.{kind_of, space_of}
-use Rattle.qc_widths.specs.Scopes.{Facts}
 
 -- what the grammar reserves are the words that names of descriptions may not be
 same_words : reserved ≡ machine_words

@@ -6,22 +6,22 @@ use Rattle.std.proofs.lemmas.Bool.{ltb-true, lt-ltb}
 use Rattle.std.proofs.lemmas.Bool.Decides.{Decides-ltb}
 use Rattle.std.proofs.lemmas.List.Elements.{All-nil, All-cons, All-head, All-tail, All-append, All-get_or}
 use Rattle.std.proofs.lemmas.Option.{get_or_from_slice_get}
-use Rattle.qc_widths.specs.TextFaults.{more_than}
-use Rattle.qc_widths.specs.TextFaults.{second_declarations, item_faults, faults_after, faults_of}
+use Rattle.qc_widths.specs.TextFaults.{more_than, second_declarations, item_faults, faults_after, faults_of}
 use Rattle.qc_grammar.specs.declared.cursor.Ident.{Ident}
 use Rattle.qc_grammar.specs.declared.cursor.Number.{Number}
 use Rattle.qc_lrtl.specs.declared.syntax.Item.{Item}
 use Rattle.qc_lrtl.specs.declared.syntax.Item.TheVariants as fact
 use Rattle.qc_lrtl.specs.declared.syntax.RawMachine.{RawMachine}
-use Rattle.qc_widths.specs.declared.facts.SpaceFacts.{SpaceFacts}
-use Rattle.qc_widths.specs.declared.faults.WidthFault.{WidthFault}
-use Rattle.qc_widths.specs.declared.faults.WidthFault.TheVariants.{UnknownName, TooMany}
-use Rattle.qc_widths.specs.Faults.{reported}
-use Rattle.qc_widths.specs.Scopes.{Facts, Signature, Meaning, space_named, number_faults, cell_faults}
-use Rattle.qc_widths.specs.Declarations.{place_of, meanings_in, space_of_item, spaces_in, facts_in, instruction_name, space_name, signature_of_item}
+use Rattle.qc_facts.specs.declared.facts.SpaceFacts.{SpaceFacts}
+use Rattle.qc_facts.specs.declared.faults.WidthFault.{WidthFault}
+use Rattle.qc_facts.specs.declared.faults.WidthFault.TheVariants.{UnknownName, TooMany}
+use Rattle.qc_facts.specs.Faults.{reported}
+use Rattle.qc_facts.specs.Facts.{Facts, space_named, number_faults, cell_faults, place_of, space_of_item, spaces_in, facts_in}
+use Rattle.qc_resolve.specs.Scopes.{Signature, Meaning}
+use Rattle.qc_resolve.specs.Declarations.{meanings_in, instruction_name, space_name, signature_of_item}
 use Rattle.qc_widths.specs.Inner.Given.{has_small_cells, is_small_space}
-use Rattle.qc_widths.specs.Numbers.{width_faults}
-use Rattle.qc_widths.proofs.Tables.{StandsAt, placed-stands}
+use Rattle.qc_facts.specs.Numbers.{width_faults}
+use Rattle.qc_facts.specs.Law.Places.{StandsAt, placed-stands}
 
 pub reported-none : (faults : List WidthFault) → reported faults ≡ None → faults ≡ []
 reported-none [] h = refl

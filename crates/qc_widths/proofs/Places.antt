@@ -5,8 +5,9 @@ use Rattle.std.proofs.Common.{refl, ap, sym, ◌∙◌, arith, get_or}
 use Rattle.std.proofs.lemmas.Option.{unwrap_or-slice_get}
 use Rattle.qc_lrtl.specs.declared.syntax.Param.{Param}
 use Rattle.qc_lrtl.specs.declared.syntax.Operand.{Operand}
-use Rattle.qc_widths.specs.Scopes.{Bound, operand, Facts, named, placed_from}
-use Rattle.qc_widths.specs.Declarations.{bound_params, bound_operands, facts_of_operand, place_of}
+use Rattle.qc_resolve.specs.Scopes.{Bound, operand}
+use Rattle.qc_facts.specs.Facts.{Facts, named, placed_from, facts_of_operand, place_of}
+use Rattle.qc_resolve.specs.Declarations.{bound_params, bound_operands}
 
 -- an element by its index
 pub got : {A : Type 0} (xs : List A) (i j : ℕ) (d x : A) → slice_get xs i ≡ Some x → j ≡ i → get_or xs j d ≡ x

@@ -7,8 +7,8 @@ use Rattle.qc_words.specs.declared.operator.Op.{Op}
 use Rattle.qc_words.specs.declared.operator.Op.TheVariants.{Add, Sub, Mul, Divu, Modu, Quot, Rem, And, Or, Xor, Com, Neg, Shl, Shrl, Shra, Eq, Ne, Lt, Ge, Ltu, Geu, Zx, Sx, Slice}
 use Rattle.qc_terms.specs.State.{Context}
 use Rattle.qc_descr.specs.declared.description.OperandKind.{OperandKind}
-use Rattle.qc_widths.specs.Values.{Value, operator_at}
-use Rattle.qc_widths.specs.Scopes.{named, second, operators, operator_named, operands_of}
+use Rattle.qc_facts.specs.Values.{Value, operator_at}
+use Rattle.qc_facts.specs.Facts.{named, second, operators, operator_named, operands_of}
 use Rattle.qc_widths.proofs.Typed.{IsGood}
 use Rattle.qc_widths.proofs.TypedNodes.{by_cond, good_unary, good_binary}
 

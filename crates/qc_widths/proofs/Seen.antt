@@ -1,19 +1,16 @@
 -- What is kept of values.
-use Rattle.std.specs.Prelude.{ℕ, ◌≡◌, ◌+◌, ◌^◌, ◌<◌, ◌≤◌, Bool, true, false, if◌then◌else◌, ◌&&◌, List, [], ◌∷◌, ◌++◌, Option, None, Some, is_some}
+use Rattle.std.specs.Prelude.{ℕ, ◌≡◌, ◌+◌, ◌<◌, ◌≤◌, Bool, true, false, ◌&&◌, List, [], ◌∷◌, ◌++◌, Option, None, Some}
 use Rattle.std.proofs.Common.{refl, ap, sym, ◌∙◌, arith, inl, inr}
 use Rattle.std.proofs.lemmas.Bool.{cases_lt}
-use Rattle.std.proofs.Math.Pow.{pow_mono}
-use Rattle.std.proofs.lemmas.Grind.{common_steps}
 use Rattle.qc_words.specs.declared.operator.Op.{Op}
-use Rattle.qc_grammar.specs.declared.cursor.Number.{Number}
 use Rattle.qc_terms.specs.declared.term.Term.{Term}
 use Rattle.qc_terms.specs.declared.term.Term.TheVariants as term
 use Rattle.qc_terms.specs.Tree.{tree_of, nodes_of, tree_of-num, tree_of-reg, tree_of-imm, tree_of-input, tree_of-after, tree_of-mem, tree_of-un, tree_of-bin}
-use Rattle.qc_widths.specs.declared.faults.WidthFault.{WidthFault}
+use Rattle.qc_facts.specs.declared.faults.WidthFault.{WidthFault}
 use Rattle.qc_widths.specs.declared.value.Value.TheVariants.{Huge, Known}
-use Rattle.qc_widths.specs.Faults.{reported, reported_of_both, token_of, rank_of}
-use Rattle.qc_widths.specs.Numbers.{is_empty, width_in, fit_faults, literal_faults, clash}
-use Rattle.qc_widths.specs.Values as values
+use Rattle.qc_facts.specs.Faults.{reported, reported_of_both, token_of, rank_of}
+use Rattle.qc_facts.specs.Numbers.{is_empty, clash}
+use Rattle.qc_facts.specs.Values as values
 use Rattle.qc_widths.specs.Inner.KeptValues.{seen, nodes_in}
 use Rattle.qc_names.specs.Law.Reported.{reported-append}
 

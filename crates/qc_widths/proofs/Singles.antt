@@ -7,8 +7,7 @@ use Rattle.std.proofs.lemmas.List.{map-append}
 use Rattle.qc_widths.specs.TextFaults.{repeated_after, single_item, number_of_single, second_singles}
 use Rattle.qc_names.specs.Reported.{twice_if}
 use Rattle.qc_lrtl.specs.declared.syntax.Item.{Item}
-use Rattle.qc_widths.specs.declared.faults.WidthFault.{WidthFault}
-use Rattle.qc_widths.specs.declared.faults.WidthFault.TheVariants.{TwiceNamed}
+use Rattle.qc_facts.specs.declared.faults.WidthFault.TheVariants.{TwiceNamed}
 use Rattle.qc_widths.specs.declared.repeated.Single.{Single}
 use Rattle.qc_widths.specs.Inner.Repeated.{name_of_single, named_single, single_name}
 

@@ -5,13 +5,14 @@ use Rattle.qc_terms.specs.Tree.{tree_of, width_of}
 use Rattle.qc_terms.specs.Typing.{IsTyped, IsTypedEffect, IsRegister, is_event}
 use Rattle.qc_descr.specs.declared.description.OperandKind.{OperandKind}
 use Rattle.qc_descr.specs.Valid.{NamesOperands, NamesPlace, EffectNames}
-use Rattle.qc_widths.specs.declared.facts.Local.{Local}
-use Rattle.qc_widths.specs.declared.facts.Local.TheVariants.{Plain as plain, Applied as applied}
-use Rattle.qc_widths.specs.declared.facts.Target.{Target}
-use Rattle.qc_widths.specs.Values.{Value}
-use Rattle.qc_widths.specs.Scopes.{Facts, Bound, argument, operand, function, Act, Meaning, Scope, Names, operand_value, target_of_operand}
-use Rattle.qc_widths.specs.Effects.{effect_of, clashes_of_act}
-use Rattle.qc_widths.specs.Declarations.{signatures_of}
+use Rattle.qc_facts.specs.declared.facts.Local.{Local}
+use Rattle.qc_facts.specs.declared.facts.Local.TheVariants.{Plain as plain, Applied as applied}
+use Rattle.qc_facts.specs.declared.facts.Target.{Target}
+use Rattle.qc_facts.specs.Values.{Value}
+use Rattle.qc_facts.specs.Facts.{Facts}
+use Rattle.qc_resolve.specs.Scopes.{Bound, argument, operand, function, Act, Meaning, Scope, Names, operand_value, target_of_operand}
+use Rattle.qc_resolve.specs.Effects.{effect_of, clashes_of_act}
+use Rattle.qc_resolve.specs.Declarations.{signatures_of}
 
 -- all numbers of the facts that should be widths are, and register transfer lists are typed for them
 pub record IsComplete (facts : Facts) (context : Context) : Type 0 where

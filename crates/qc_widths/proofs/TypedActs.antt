@@ -27,16 +27,17 @@ use Rattle.qc_lrtl.specs.declared.syntax.Guard.{Guard}
 use Rattle.qc_lrtl.specs.declared.syntax.Effect.{Effect}
 use Rattle.qc_lrtl.specs.declared.syntax.Simple.{Simple}
 use Rattle.qc_lrtl.specs.declared.syntax.Simple.TheVariants.{Pc, Out, Halt, Trap, Mem, Name, Cell, Use}
-use Rattle.qc_widths.specs.declared.faults.WidthFault.{WidthFault}
-use Rattle.qc_widths.specs.declared.faults.WidthFault.TheVariants.{UnknownName}
-use Rattle.qc_widths.specs.declared.facts.Local.{Local}
-use Rattle.qc_widths.specs.declared.facts.Local.TheVariants.{Plain as plain, Applied as applied}
-use Rattle.qc_widths.specs.declared.facts.Target.{Target}
-use Rattle.qc_widths.specs.Numbers.{access_faults, access_width}
-use Rattle.qc_widths.specs.Values.{Value, bits_of, mismatch, test}
-use Rattle.qc_widths.specs.Scopes.{Act, Bound, argument, operand, function, Signature, Meaning, Scope, Names, bound_in, local_in, meaning_in, takes, operator_named, cell_faults}
-use Rattle.qc_widths.specs.Expressions.{Expression, expression_of, value_of, faults_in, target_of, target_of_bound, bindings, argument_faults, plain_faults}
-use Rattle.qc_widths.specs.Effects.{act_of, act_on, act_on_memory, acts_of_meaning, acts_of_simple, joined, guarded, acts_under, acts_of_effect, acts_of, fits_target_of, fits_target, target_faults, effects_of, effects_faults, simple_faults, guard_faults, effect_faults, is_named, targets_at, targets_of, simple_targets, effect_targets}
+use Rattle.qc_facts.specs.declared.faults.WidthFault.{WidthFault}
+use Rattle.qc_facts.specs.declared.faults.WidthFault.TheVariants.{UnknownName}
+use Rattle.qc_facts.specs.declared.facts.Local.{Local}
+use Rattle.qc_facts.specs.declared.facts.Local.TheVariants.{Plain as plain, Applied as applied}
+use Rattle.qc_facts.specs.declared.facts.Target.{Target}
+use Rattle.qc_facts.specs.Numbers.{access_faults, access_width}
+use Rattle.qc_facts.specs.Values.{Value, bits_of, mismatch, test}
+use Rattle.qc_resolve.specs.Scopes.{Act, Bound, argument, operand, function, Signature, Meaning, Scope, Names, bound_in, local_in, meaning_in, takes}
+use Rattle.qc_facts.specs.Facts.{operator_named, cell_faults}
+use Rattle.qc_resolve.specs.Expressions.{Expression, expression_of, value_of, faults_in, target_of, target_of_bound, bindings, argument_faults, plain_faults}
+use Rattle.qc_resolve.specs.Effects.{act_of, act_on, act_on_memory, acts_of_meaning, acts_of_simple, joined, guarded, acts_under, acts_of_effect, acts_of, fits_target_of, fits_target, target_faults, effects_of, effects_faults, simple_faults, guard_faults, effect_faults, is_named, targets_at, targets_of, simple_targets, effect_targets}
 use Rattle.qc_widths.proofs.Typed.{IsTypedValue, IsGood, IsTypedTarget, IsGoodBound, IsGoodAct, IsGoodMeaning, IsGoodScope, MatchesLocal, Matches}
 use Rattle.qc_widths.proofs.TypedNodes.{none_of, no_mismatch, is_fine_access}
 use Rattle.qc_widths.proofs.Fine.{AreFound, IsFineHere, AreThere, local, signature, meaning, suits, tested, unknown, typed_target}

@@ -13,9 +13,9 @@ use Rattle.qc_terms.specs.Typing.{IsTyped, IsAccessWidth}
 use Rattle.qc_descr.specs.declared.description.OperandKind.{OperandKind}
 use Rattle.qc_descr.specs.Valid.{NamesOperands}
 use Rattle.qc_grammar.specs.declared.cursor.Number.{Number}
-use Rattle.qc_widths.specs.declared.faults.WidthFault.{WidthFault}
-use Rattle.qc_widths.specs.Numbers.{is_empty, width_in, width_faults, fit_faults, literal_faults, access_faults, access_width}
-use Rattle.qc_widths.specs.Values.{Value, bits_of, faulty, leaf, node, mismatch, excess, past_end, test, literal, input, after, load, extension, slice, unary, binary, width_of_operator}
+use Rattle.qc_facts.specs.declared.faults.WidthFault.{WidthFault}
+use Rattle.qc_facts.specs.Numbers.{is_empty, width_in, width_faults, fit_faults, literal_faults, access_faults, access_width}
+use Rattle.qc_facts.specs.Values.{Value, bits_of, faulty, leaf, node, mismatch, excess, past_end, test, literal, input, after, load, extension, slice, unary, binary, width_of_operator}
 use Rattle.qc_widths.proofs.Typed.{IsTypedValue, IsGood}
 
 pub none_of : {A : Type 0} (xs ys : List A) → xs ++ ys ≡ [] → (xs ≡ []) × (ys ≡ [])

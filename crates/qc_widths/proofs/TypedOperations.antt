@@ -5,8 +5,9 @@ use Rattle.std.proofs.Common.{refl, ap, sym, ◌∙◌, subst, arith, inl, inr, 
 use Rattle.std.specs.Str.{bytes_eq}
 use Rattle.std.proofs.lemmas.List.Sums.{sum_by-append}
 use Rattle.std.proofs.lemmas.List.Elements.{All-from_recursion}
-use Rattle.qc_widths.specs.TextFaults.{repeated, kind_faults, acts_of_instruction, rtl_of, limit_faults, clashes_within, instruction_faults}
-use Rattle.qc_widths.specs.Faults.{unknown_unless}
+use Rattle.qc_widths.specs.TextFaults.{repeated, acts_of_instruction, rtl_of, limit_faults, clashes_within, instruction_faults}
+use Rattle.qc_facts.specs.Facts.{kind_faults, Facts, named, space_named, facts_of_operand, register_of}
+use Rattle.qc_facts.specs.Faults.{unknown_unless}
 use Rattle.qc_terms.specs.State.{Context}
 use Rattle.qc_terms.specs.Tree.{width_of, tree_of-imm}
 use Rattle.qc_terms.specs.Typing.{IsTyped, IsTypedEffect, IsTypedRtl, HasOneEvent, is_event}
@@ -21,15 +22,15 @@ use Rattle.qc_lrtl.specs.declared.syntax.Effect.{Effect}
 use Rattle.qc_lrtl.specs.declared.syntax.Operand.{Operand}
 use Rattle.qc_lrtl.specs.declared.syntax.OperandKind as raw
 use Rattle.qc_lrtl.specs.declared.syntax.OperandKind.TheVariants.{Register, Immediate as RawImmediate, Address}
-use Rattle.qc_widths.specs.declared.facts.SpaceFacts.{SpaceFacts}
-use Rattle.qc_widths.specs.declared.facts.Target.{Target}
-use Rattle.qc_widths.specs.declared.faults.WidthFault.{WidthFault}
-use Rattle.qc_widths.specs.declared.faults.WidthFault.TheVariants.{TwiceNamed}
-use Rattle.qc_widths.specs.Numbers.{width_in}
-use Rattle.qc_widths.specs.Values.{bits_of, leaf}
-use Rattle.qc_widths.specs.Scopes.{Act, operand, Facts, Meaning, Scope, Names, named, local_bound, space_named, target_of_operand}
-use Rattle.qc_widths.specs.Effects.{effect_of, clashes_of_act, effect_faults, effect_events}
-use Rattle.qc_widths.specs.Declarations.{facts_of_operand, register_of, fits_as_target, locals_of_operands, bound_operands, names_for, scope_for, signatures_of}
+use Rattle.qc_facts.specs.declared.facts.SpaceFacts.{SpaceFacts}
+use Rattle.qc_facts.specs.declared.facts.Target.{Target}
+use Rattle.qc_facts.specs.declared.faults.WidthFault.{WidthFault}
+use Rattle.qc_facts.specs.declared.faults.WidthFault.TheVariants.{TwiceNamed}
+use Rattle.qc_facts.specs.Numbers.{width_in}
+use Rattle.qc_facts.specs.Values.{bits_of, leaf}
+use Rattle.qc_resolve.specs.Scopes.{Act, operand, Meaning, Scope, Names, local_bound, target_of_operand}
+use Rattle.qc_resolve.specs.Effects.{effect_of, clashes_of_act, effect_faults, effect_events}
+use Rattle.qc_resolve.specs.Declarations.{fits_as_target, locals_of_operands, bound_operands, names_for, scope_for, signatures_of}
 use Rattle.qc_widths.specs.Machine.{kind_of}
 use Rattle.qc_widths.proofs.Typed.{IsComplete, IsTypedValue, IsTypedTarget, IsGoodBound, IsGoodAct, IsGoodScope, MatchLocals, Matches}
 use Rattle.qc_widths.proofs.TypedNodes.{none_of, by_cond, is_width}

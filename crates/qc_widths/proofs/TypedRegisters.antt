@@ -15,11 +15,11 @@ use Rattle.qc_descr.specs.declared.description.OperandKind.{OperandKind}
 use Rattle.qc_descr.specs.Valid.{NamesOperands, NamesPlace}
 use Rattle.qc_grammar.specs.declared.cursor.Ident.{Ident}
 use Rattle.qc_grammar.specs.declared.cursor.Number.{Number}
-use Rattle.qc_widths.specs.declared.facts.SpaceFacts.{SpaceFacts}
-use Rattle.qc_widths.specs.declared.facts.Target.{Target}
-use Rattle.qc_widths.specs.declared.faults.WidthFault.TheVariants.{UnknownName}
-use Rattle.qc_widths.specs.Values.{bits_of, leaf}
-use Rattle.qc_widths.specs.Scopes.{Facts, placed_from, space_named, cell_in, cell_named, number_faults, cell_faults}
+use Rattle.qc_facts.specs.declared.facts.SpaceFacts.{SpaceFacts}
+use Rattle.qc_facts.specs.declared.facts.Target.{Target}
+use Rattle.qc_facts.specs.declared.faults.WidthFault.TheVariants.{UnknownName}
+use Rattle.qc_facts.specs.Values.{bits_of, leaf}
+use Rattle.qc_facts.specs.Facts.{Facts, placed_from, space_named, cell_in, cell_named, number_faults, cell_faults}
 use Rattle.qc_widths.proofs.Typed.{IsComplete, IsTypedValue, IsTypedTarget}
 use Rattle.qc_widths.proofs.TypedNodes.{by_cond}
 

@@ -9,10 +9,11 @@ use Rattle.qc_grammar.specs.declared.cursor.Ident.{Ident}
 use Rattle.qc_grammar.specs.declared.cursor.Number.{Number}
 use Rattle.qc_lrtl.specs.declared.syntax.Expr.{Expr, map-Expr, ind-Expr, fold-roll-Expr}
 use Rattle.qc_lrtl.specs.declared.syntax.Expr.TheOpen.{Expr-F, Literal, Input, After, Mem, Zx, Sx, Slice, Name, Call, Cell}
-use Rattle.qc_widths.specs.Numbers.{width_faults, access_faults}
-use Rattle.qc_widths.specs.Values.{input, after, load}
-use Rattle.qc_widths.specs.Scopes.{Scope, Names, cell_faults}
-use Rattle.qc_widths.specs.Expressions.{Expression, expression_layer, expression_of, value_of_cell}
+use Rattle.qc_facts.specs.Numbers.{width_faults, access_faults}
+use Rattle.qc_facts.specs.Values.{input, after, load}
+use Rattle.qc_resolve.specs.Scopes.{Scope, Names}
+use Rattle.qc_facts.specs.Facts.{cell_faults}
+use Rattle.qc_resolve.specs.Expressions.{Expression, expression_layer, expression_of, value_of_cell}
 use Rattle.qc_widths.proofs.Typed.{IsTypedValue, IsGood, IsGoodScope, Matches}
 use Rattle.qc_widths.proofs.TypedNodes.{none_of, typed_literal, typed_input, typed_after, good_load, good_extension, good_slice}
 use Rattle.qc_widths.proofs.Fine.{IsFineHere, fine_name, fine_use}

@@ -12,16 +12,16 @@ use Rattle.qc_lrtl.specs.declared.syntax.Expr.{Expr}
 use Rattle.qc_lrtl.specs.declared.syntax.Param.{Param}
 use Rattle.qc_widths.specs.declared.scope.Bound as code
 use Rattle.qc_widths.specs.declared.scope.Callee.TheVariants.{Unknown, Declared}
-use Rattle.qc_widths.specs.Scopes.{Bound, function, Facts, Meaning, Scope, is_plain, takes}
+use Rattle.qc_resolve.specs.Scopes.{Bound, function, Meaning, Scope, is_plain, takes}
+use Rattle.qc_facts.specs.Facts.{Facts}
 use Rattle.qc_lrtl.specs.declared.syntax.Effect.{Effect}
-use Rattle.qc_widths.specs.Effects.{acts_of, acts_of_meaning}
-use Rattle.qc_widths.specs.Declarations.{arity_of, bound_params, meaning_of_effects, meaning_of_function, scope_for}
-use Rattle.qc_widths.specs.Expressions.{Expression, bindings, expression_of, use_of_bound, use_of_operator, use_of_meaning, function_of_meaning, value_of}
-use Rattle.qc_widths.specs.Inner.KeptValues.{IsCallee, AreBound, AreBelow, IsBound, IsBoundBelow, binding}
-use Rattle.qc_widths.specs.Values as values
+use Rattle.qc_resolve.specs.Effects.{acts_of, acts_of_meaning}
+use Rattle.qc_resolve.specs.Declarations.{arity_of, bound_params, meaning_of_effects, meaning_of_function, scope_for}
+use Rattle.qc_resolve.specs.Expressions.{Expression, bindings, expression_of, use_of_bound, use_of_operator, use_of_meaning, function_of_meaning, value_of}
+use Rattle.qc_widths.specs.Inner.KeptValues.{IsCallee, AreBound, AreBelow, IsBound, IsBoundBelow, binding, seen, nodes_in}
+use Rattle.qc_facts.specs.Values as values
 use Rattle.qc_words.specs.Operators.{is_unary}
 use Rattle.qc_widths.specs.declared.value.Value.TheVariants.{Huge}
-use Rattle.qc_widths.specs.Inner.KeptValues.{seen, nodes_in}
 use Rattle.qc_widths.proofs.Seen.{huge_of, huge_bin, seen_large}
 
 none_some : {A : Type 0} (x : A) → None ≡ Some x → ⊥

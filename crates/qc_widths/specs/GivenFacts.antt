@@ -1,6 +1,5 @@
 -- The facts that the items of a machine's text give.
-use Rattle.std.specs.Prelude.{ℕ, ◌-◌, ◌^◌, min}
-use Rattle.std.specs.Prelude.{List, [], ◌∷◌, Option, None, Some}
+use Rattle.std.specs.Prelude.{ℕ, ◌-◌, ◌^◌, min, List, [], ◌∷◌, Option, None, Some}
 use Rattle.std.specs.Option.{option_flatten, option_or}
 use Rattle.qc_terms.specs.declared.state.Order.{Order}
 use Rattle.qc_terms.specs.declared.state.Order.TheVariants as order
@@ -11,10 +10,9 @@ use Rattle.qc_lrtl.specs.declared.syntax.ByteOrder.{ByteOrder}
 use Rattle.qc_lrtl.specs.declared.syntax.ByteOrder.TheVariants.{Little, Big}
 use Rattle.qc_lrtl.specs.declared.syntax.Item.{Item}
 use Rattle.qc_lrtl.specs.declared.syntax.Item.TheVariants as fact
-use Rattle.qc_widths.specs.Numbers.{width_in}
-use Rattle.qc_widths.specs.declared.facts.SpaceFacts.{SpaceFacts}
-use Rattle.qc_widths.specs.Scopes.{Facts, space_named}
-use Rattle.qc_widths.specs.Declarations.{facts_in}
+use Rattle.qc_facts.specs.Numbers.{width_in}
+use Rattle.qc_facts.specs.declared.facts.SpaceFacts.{SpaceFacts}
+use Rattle.qc_facts.specs.Facts.{Facts, space_named, facts_in}
 
 -- the first of what the items give
 abbrev pub first_given : {A : Type 0} → (Item → Option A) → List Item → Option A

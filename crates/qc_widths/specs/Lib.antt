@@ -1,11 +1,4 @@
-pub mod Declarations
-pub mod Effects
-pub mod Expressions
-pub mod Faults
 pub mod GivenFacts
 pub mod Inner
 pub mod Machine
-pub mod Numbers
-pub mod Scopes
 pub mod TextFaults
-pub mod Values

@@ -1,6 +1,5 @@
 -- What a machine's text means, and the answer to it.
-use Rattle.std.specs.Prelude.{◌≡◌}
-use Rattle.std.specs.Prelude.{List, [], ◌∷◌, map, None, Some, Result, Ok, Err}
+use Rattle.std.specs.Prelude.{◌≡◌, List, [], ◌∷◌, map, None, Some, Result, Ok, Err}
 use Rattle.std.specs.List.{flat_map}
 use Rattle.qc_widths.specs.TextFaults.{acts_of_instruction, rtl_of, faults_of}
 use Rattle.qc_widths.specs.GivenFacts.{given_in}
@@ -8,21 +7,20 @@ use Rattle.qc_descr.specs.declared.description.OperandKind.{OperandKind}
 use Rattle.qc_descr.specs.declared.description.OperandKind.TheVariants as kind
 use Rattle.qc_descr.specs.declared.description.Space as descr
 use Rattle.qc_descr.specs.declared.parts.Operation.{Operation}
-use Rattle.qc_lrtl.specs.declared.syntax.OperandKind as raw
-use Rattle.qc_lrtl.specs.declared.syntax.OperandKind.TheVariants.{Register}
 use Rattle.qc_lrtl.specs.declared.syntax.Item.{Item}
 use Rattle.qc_lrtl.specs.declared.syntax.Item.TheVariants as fact
 use Rattle.qc_lrtl.specs.declared.syntax.RawMachine.{RawMachine}
-use Rattle.qc_widths.specs.declared.faults.WidthEnd.{WidthEnd}
-use Rattle.qc_widths.specs.declared.faults.WidthEnd.TheVariants.{Fault, NoMemory}
+use Rattle.qc_facts.specs.declared.faults.WidthEnd.{WidthEnd}
+use Rattle.qc_facts.specs.declared.faults.WidthEnd.TheVariants.{Fault, NoMemory}
 use Rattle.qc_widths.specs.declared.machine.Machine.{Machine}
-use Rattle.qc_widths.specs.Faults.{reported}
-use Rattle.qc_widths.specs.Values.{bits_of}
-use Rattle.qc_widths.specs.declared.facts.OperandFacts.TheVariants.{Register as register, Immediate as immediate, Address as address}
-use Rattle.qc_widths.specs.declared.facts.OperandFacts.{OperandFacts}
-use Rattle.qc_widths.specs.declared.facts.SpaceFacts.{SpaceFacts}
-use Rattle.qc_widths.specs.Scopes.{Facts, Meaning}
-use Rattle.qc_widths.specs.Declarations.{facts_in, facts_of_operand, meanings_in}
+use Rattle.qc_facts.specs.Faults.{reported}
+use Rattle.qc_facts.specs.Values.{bits_of}
+use Rattle.qc_facts.specs.declared.facts.OperandFacts.TheVariants.{Register as register, Immediate as immediate, Address as address}
+use Rattle.qc_facts.specs.declared.facts.OperandFacts.{OperandFacts}
+use Rattle.qc_facts.specs.declared.facts.SpaceFacts.{SpaceFacts}
+use Rattle.qc_facts.specs.Facts.{Facts, facts_in, facts_of_operand}
+use Rattle.qc_resolve.specs.Scopes.{Meaning}
+use Rattle.qc_resolve.specs.Declarations.{meanings_in}
 
 -- the spaces and the operations that the items declare
 abbrev pub space_of : SpaceFacts → descr.Space

@@ -1,33 +1,28 @@
 -- The faults of a machine's text.
-use Rattle.std.specs.Prelude.{ℕ, suc, ◌+◌, nat_eq, nat_lt, if◌then◌else◌, is_some}
-use Rattle.std.specs.Prelude.{List, [], ◌∷◌, ◌++◌, length, map, drop}
+use Rattle.std.specs.Prelude.{ℕ, suc, ◌+◌, nat_eq, nat_lt, if◌then◌else◌, List, [], ◌∷◌, ◌++◌, length, map, drop}
 use Rattle.std.specs.List.{flat_map, list_any}
 use Rattle.qc_descr.specs.Limits.{most_instructions, most_operands, most_nodes, most_effects, most_spaces, most_cells}
 use Rattle.qc_terms.specs.declared.term.Rtl.{Rtl}
-use Rattle.qc_descr.specs.declared.description.OperandKind.{OperandKind}
 use Rattle.qc_descr.specs.Valid.{nodes_of_rtl}
 use Rattle.qc_grammar.specs.declared.cursor.Ident.{Ident}
-use Rattle.qc_lrtl.specs.declared.syntax.ByteOrder.{ByteOrder}
 use Rattle.qc_lrtl.specs.declared.syntax.Effect.{Effect}
 use Rattle.qc_lrtl.specs.declared.syntax.Param.{Param}
 use Rattle.qc_lrtl.specs.declared.syntax.Operand.{Operand}
-use Rattle.qc_lrtl.specs.declared.syntax.OperandKind as raw
-use Rattle.qc_lrtl.specs.declared.syntax.OperandKind.TheVariants.{Register, Immediate, Address}
 use Rattle.qc_lrtl.specs.declared.syntax.Item.{Item}
 use Rattle.qc_lrtl.specs.declared.syntax.Item.TheVariants as fact
 use Rattle.qc_lrtl.specs.declared.syntax.RawMachine.{RawMachine}
-use Rattle.qc_widths.specs.declared.faults.WidthFault.{WidthFault}
-use Rattle.qc_widths.specs.declared.faults.WidthFault.TheVariants.{TwiceNamed, TooMany}
+use Rattle.qc_facts.specs.declared.faults.WidthFault.{WidthFault}
+use Rattle.qc_facts.specs.declared.faults.WidthFault.TheVariants.{TwiceNamed, TooMany}
 use Rattle.qc_names.specs.Reported.{twice_if}
 use Rattle.qc_names.specs.Seen as names
 use Rattle.qc_widths.specs.declared.repeated.Single.{Single}
 use Rattle.qc_widths.specs.declared.repeated.Single.TheVariants as single
-use Rattle.qc_widths.specs.Faults.{unknown_unless}
-use Rattle.qc_widths.specs.Numbers.{width_faults}
-use Rattle.qc_widths.specs.Scopes.{Facts, Signature, Meaning, Act, operators, space_named, cell_faults}
-use Rattle.qc_widths.specs.Expressions.{faults_in}
-use Rattle.qc_widths.specs.Effects.{acts_of, effect_of, clashes_of_act, effect_faults, effect_events}
-use Rattle.qc_widths.specs.Declarations.{space_name, function_name, instruction_name, facts_in, locals_of_params, locals_of_operands, bound_operands, names_for, scope_for, signature_of_item, meanings_in}
+use Rattle.qc_facts.specs.Numbers.{width_faults}
+use Rattle.qc_facts.specs.Facts.{Facts, operators, cell_faults, facts_in, kind_faults}
+use Rattle.qc_resolve.specs.Scopes.{Signature, Meaning, Act}
+use Rattle.qc_resolve.specs.Expressions.{faults_in}
+use Rattle.qc_resolve.specs.Effects.{acts_of, effect_of, clashes_of_act, effect_faults, effect_events}
+use Rattle.qc_resolve.specs.Declarations.{space_name, function_name, instruction_name, locals_of_params, locals_of_operands, bound_operands, names_for, scope_for, signature_of_item, meanings_in}
 
 -- The names that have one of the same text before them, or among earlier ones.
 abbrev pub repeated_after : List (List ℕ) → List Ident → List WidthFault
@@ -79,12 +74,6 @@ second_declarations items =
     ++ (repeated (flat_map space_name items)
     ++ (repeated_after (map (λ p. p.0) operators) (flat_map function_name items)
     ++ repeated (flat_map instruction_name items)))
-
--- what is wrong with an operand's kind
-abbrev pub kind_faults : Facts → raw.OperandKind → List WidthFault
-kind_faults facts (Register space) = unknown_unless (is_some (space_named facts space.text)) space.token
-kind_faults facts (Immediate token bits) = width_faults bits
-kind_faults facts (Address token) = []
 
 -- more than so many of something
 abbrev pub more_than : ℕ → ℕ → ℕ → List WidthFault

@@ -2,18 +2,16 @@
 ghost use Rattle.std.specs.Prelude.{◌≡◌, ◌++◌, ◌∷◌, [], Option, None, Some, List, IfOk, map, min};
 ghost use Rattle.qc_descr.specs.Valid.{nodes_of_dest};
 ghost use Rattle.qc_terms.specs.declared.term.Dest.TheVariants as dest;
-ghost use Rattle.qc_widths.specs.Effects.{act_of, act_on, act_on_memory, guarded, joined as joined_of};
+ghost use Rattle.qc_resolve.specs.Effects.{act_of, act_on, act_on_memory, guarded, joined as joined_of};
 ghost use Rattle.qc_widths.specs.Inner.KeptValues.{IsValue};
 ghost use Rattle.qc_widths.specs.Inner.KeptEffects.{IsActs, more_under, nodes_under, under};
-ghost use Rattle.qc_widths.specs.Scopes.{Act};
-ghost use Rattle.qc_widths.specs.Values as values;
+ghost use Rattle.qc_resolve.specs.Scopes.{Act};
+ghost use Rattle.qc_facts.specs.Values as values;
 
-use crate::facts::{Facts, Target};
-use crate::faults::WidthFault;
 use crate::nodes::{bits_of, mismatch};
-use crate::numbers::access_width;
 use crate::terms::copy_term;
 use crate::value::{MOST_NODES, Value};
+use qc_facts::{Facts, Target, WidthFault, access_width};
 use qc_grammar::Number;
 use qc_names::earlier;
 use qc_terms::{Dest, Effect, Term};

@@ -1,21 +1,19 @@
 //! The faults of bodies among names.
 ghost use Rattle.std.specs.Prelude.{◌≡◌, ◌≤◌, ◌++◌, length, drop, map, take};
 ghost use Rattle.std.specs.List.{flat_map};
-ghost use Rattle.qc_widths.specs.declared.faults.WidthFault.TheVariants.{TwiceNamed};
-ghost use Rattle.qc_widths.specs.Faults.{reported};
-ghost use Rattle.qc_widths.specs.Expressions.{faults_in};
-ghost use Rattle.qc_widths.specs.Effects.{effect_faults, effect_events};
-ghost use Rattle.qc_widths.specs.Declarations.{names_for};
-ghost use Rattle.qc_widths.specs.Inner.KeptNames.{names_at, locals_in, IsReady};
+ghost use Rattle.qc_facts.specs.declared.faults.WidthFault.TheVariants.{TwiceNamed};
+ghost use Rattle.qc_facts.specs.Faults.{reported};
+ghost use Rattle.qc_resolve.specs.Expressions.{faults_in};
+ghost use Rattle.qc_resolve.specs.Effects.{effect_faults, effect_events};
+ghost use Rattle.qc_resolve.specs.Declarations.{names_for};
+ghost use Rattle.qc_resolve.specs.KeptNames.{names_at, locals_in, IsReady};
 ghost use Rattle.qc_widths.specs.Inner.Elaboration.{IsContext, names_of_params, names_of_operands, all_signatures};
 
 use crate::context::Context;
-use crate::faults::WidthFault;
-use crate::names::effects::{body_fault, twice_fault};
-use crate::names::expressions::expression_fault;
-use crate::names::{Locals, Names};
+use qc_facts::WidthFault;
 use qc_lrtl::{Effect, Expr, Operand, Param};
 use qc_names::earlier;
+use qc_resolve::{Locals, Names, body_fault, expression_fault, twice_fault};
 
 /// The names of a body that uses the first functions of this number.
 fn names_in<'a>(context: &Context<'a>, level: usize, locals: Locals<'a>) -> Names<'a>

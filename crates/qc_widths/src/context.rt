@@ -1,8 +1,7 @@
 //! What is looked up while items are elaborated.
-use crate::facts::Facts;
-use crate::functions::Functions;
-use crate::signatures::Signature;
+use qc_facts::Facts;
 use qc_lrtl::Item;
+use qc_resolve::{Functions, Signature};
 
 /// The items of a machine, the facts and the functions that they declare, and what is known of these without their uses.
 #[derive(Clone, Copy)]

@@ -3,39 +3,27 @@ ghost use Rattle.std.specs.Prelude.{◌≡◌, map, None, IfOk};
 ghost use Rattle.qc_widths.specs.TextFaults.{faults_of};
 ghost use Rattle.qc_descr.specs.Parts.{AreParts};
 ghost use Rattle.qc_lrtl.specs.Named.{AreNamed};
-ghost use Rattle.qc_widths.specs.Declarations.{facts_in, signatures_in};
-ghost use Rattle.qc_widths.specs.Faults.{reported};
+ghost use Rattle.qc_facts.specs.Facts.{facts_in};
+ghost use Rattle.qc_resolve.specs.Declarations.{signatures_in};
+ghost use Rattle.qc_facts.specs.Faults.{reported};
 ghost use Rattle.qc_widths.specs.Machine.{Elaborates, machine_of};
 ghost use Rattle.qc_widths.specs.Inner.Elaboration.{OperationsUnless, faults_in_items, operations_in};
-ghost use Rattle.qc_widths.specs.Inner.FunctionTables.{IsTableOf};
-ghost use Rattle.qc_widths.specs.Inner.KeptSignatures.{summary};
+ghost use Rattle.qc_resolve.specs.FunctionTables.{IsTableOf};
+ghost use Rattle.qc_resolve.specs.KeptSignatures.{summary};
 
 use crate::context::Context;
-use crate::facts::Facts;
-use crate::faults::{WidthEnd, WidthFault};
-use crate::functions::Functions;
 use crate::given::{given, spaces_given};
 use crate::machine::Machine;
 use crate::progress::{Progress, elaborate_items};
 use crate::repeated::second_names;
-use crate::signatures::{Signature, signatures};
 use qc_descr::Operation;
+use qc_facts::{Facts, WidthEnd, WidthFault};
 use qc_lrtl::{Item, RawMachine};
 use qc_names::earlier;
+use qc_resolve::{Functions, Signature, declared_signatures};
 use qc_text::Text;
 use sqlite_items::Items;
 use std::alloc::{AllocError, Global};
-
-impl From<AllocError> for WidthEnd {
-    ghost use Rattle.std.specs.Prelude.{◌≡◌};
-    ghost use Rattle.qc_widths.specs.declared.faults.WidthEnd.TheVariants.{NoMemory};
-
-    ghost from_gives = { λ _ e. e ≡ NoMemory };
-
-    fn from(_: AllocError) -> WidthEnd {
-        WidthEnd::NoMemory
-    }
-}
 
 /// The fault that is reported of all items, and their operations, which are whole where no fault is reported.
 fn fault_with_functions<'a>(
@@ -79,7 +67,7 @@ fn fault_and_operations<'a>(
     match Functions::new(alloc, items) {
         Err(error) => Err(error),
         Ok(functions) => {
-            let signatures = signatures(alloc, facts, items, &functions)?;
+            let signatures = declared_signatures(alloc, facts, items, &functions)?;
             fault_with_functions(alloc, facts, items, &functions, signatures.as_slice())
         }
     }

@@ -1,27 +1,26 @@
 //! What an expression comes to where it is written, up to a limit of nodes.
-ghost use Rattle.std.specs.Prelude.{◌≡◌, ◌&&◌, nat_eq, ℕ, true, false, cond, List, length, map, is_some};
-ghost use Rattle.std.specs.Prelude.{Option, None, Some, IfOk, IfSome};
+ghost use Rattle.std.specs.Prelude.{◌≡◌, ◌&&◌, nat_eq, ℕ, true, false, cond, List, length, map, is_some, Option, None};
+ghost use Rattle.std.specs.Prelude.{Some, IfOk, IfSome};
 ghost use Rattle.std.specs.List.{list_all};
 ghost use Rattle.std.specs.Option.{option_copied, option_map};
-ghost use Rattle.qc_widths.specs.Declarations.{arity_of};
+ghost use Rattle.qc_resolve.specs.Declarations.{arity_of};
 ghost use Rattle.qc_widths.specs.Inner.KeptValues.{AreBelow, AreBound, IsBelow, IsBound, IsBoundBelow, IsCallee};
-ghost use Rattle.qc_widths.specs.Inner.KeptValues.{IsDeclared, IsPlain, IsScope, meaning_of_number};
-ghost use Rattle.qc_widths.specs.Inner.KeptValues.{IsSettled, IsValue, apply_of, binding, meanings_of};
-ghost use Rattle.qc_widths.specs.Expressions.{bare_name, bindings, expression_of, function_of, function_of_meaning};
-ghost use Rattle.qc_widths.specs.Expressions.{function_of_operator, target_of, target_of_bound, use_of, use_of_meaning};
-ghost use Rattle.qc_widths.specs.Expressions.{value_of, value_of_bound};
-ghost use Rattle.qc_widths.specs.Scopes.{Meaning, Scope as SpecScope, argument, bound_in, meaning_in};
-ghost use Rattle.qc_widths.specs.Scopes.{target_of_operand};
-ghost use Rattle.qc_widths.specs.Values as values;
+ghost use Rattle.qc_widths.specs.Inner.KeptValues.{IsDeclared, IsPlain, IsScope, meaning_of_number, IsSettled, IsValue};
+ghost use Rattle.qc_widths.specs.Inner.KeptValues.{apply_of, binding, meanings_of};
+ghost use Rattle.qc_resolve.specs.Expressions.{bare_name, bindings, expression_of, function_of, function_of_meaning};
+ghost use Rattle.qc_resolve.specs.Expressions.{function_of_operator, target_of, target_of_bound, use_of};
+ghost use Rattle.qc_resolve.specs.Expressions.{use_of_meaning, value_of, value_of_bound};
+ghost use Rattle.qc_resolve.specs.Scopes.{Meaning, Scope as SpecScope, argument, bound_in, meaning_in};
+ghost use Rattle.qc_resolve.specs.Scopes.{target_of_operand};
+ghost use Rattle.qc_facts.specs.Values as values;
 
-use crate::facts::{OperandFacts, Target};
 use crate::nodes::{
     after, binary, cell_value, extension, input, literal, load, operand_value, slice, takes_one,
     unary,
 };
-use crate::operators::operator_named;
 use crate::scope::{Bound, Callee, Found, Locals, Scope};
 use crate::value::{Value, faulty};
+use qc_facts::{OperandFacts, Target, operator_named};
 use qc_grammar::Ident;
 use qc_lrtl::{Expr, Item, Param};
 use qc_terms::Place;
@@ -48,7 +47,7 @@ fn name_value(alloc: Global, scope: &Scope<'_>, name: &Ident) -> Result<Value, A
 }
 
 /// The name that an expression is, if it is one alone.
-#[tactic(auto, using(crate::proofs::Laws::laws))]
+#[tactic(auto, using(qc_resolve::specs::Law::Expressions::laws))]
 fn bare_name_of(expr: &Expr) -> Option<&Ident>
     ensures { option_copied result ≡ bare_name expr.now }
 {

@@ -1,24 +1,23 @@
 //! What effects come to where they are written.
 ghost use Rattle.std.specs.Prelude.{◌≡◌, ◌≤◌, None, IfOk, length, map};
 ghost use Rattle.qc_widths.specs.TextFaults.{acts_of_instruction as instruction_acts};
-ghost use Rattle.qc_widths.specs.Declarations.{function_items, meanings_in};
-ghost use Rattle.qc_widths.specs.Effects.{acts_of, acts_of_effect, acts_of_meaning, acts_of_simple, acts_of_use};
+ghost use Rattle.qc_resolve.specs.Declarations.{function_items, meanings_in};
+ghost use Rattle.qc_resolve.specs.Effects.{acts_of, acts_of_effect, acts_of_meaning, acts_of_simple, acts_of_use};
 ghost use Rattle.qc_widths.specs.Inner.Elaboration.{AreActs, IsContext};
 ghost use Rattle.qc_widths.specs.Inner.KeptValues.{IsScope, IsSettled};
-ghost use Rattle.qc_widths.specs.Expressions.{expression_of};
+ghost use Rattle.qc_resolve.specs.Expressions.{expression_of};
 ghost use Rattle.qc_widths.specs.Inner.KeptEffects.{IsActs};
-ghost use Rattle.qc_widths.specs.Scopes.{Scope as SpecScope, meaning_in};
-ghost use Rattle.qc_widths.specs.Inner.FunctionTables.{IsTableOf};
+ghost use Rattle.qc_resolve.specs.Scopes.{Scope as SpecScope, meaning_in};
+ghost use Rattle.qc_resolve.specs.FunctionTables.{IsTableOf};
 
 use crate::acts::{Acts, act_on_register, act_on_word, guarded_acts, joined, no_acts, one_act};
 use crate::context::Context;
 use crate::evaluate::{declared, evaluate, evaluate_bindings, target_of_name};
-use crate::facts::Facts;
-use crate::functions::Functions;
-use crate::operators::operator_named;
 use crate::scope::{Found, Locals, Scope};
+use qc_facts::{Facts, operator_named};
 use qc_grammar::Ident;
 use qc_lrtl::{Effect, Expr, Item, Operand, Simple};
+use qc_resolve::Functions;
 use qc_terms::Dest;
 use qc_words::Width;
 use std::alloc::{AllocError, Global};
@@ -45,7 +44,7 @@ pub(crate) fn acts_of_effects(
 }
 
 /// What an effect comes to.
-#[tactic(auto, unfolding(crate::specs::Effects::acts_of_effect))]
+#[tactic(auto, unfolding(qc_resolve::specs::Effects::acts_of_effect))]
 #[cycle(gathering)]
 fn acts_of_one(alloc: Global, scope: &Scope<'_>, effect: &Effect) -> Result<Acts, AllocError>
     requires { IsSettled scope.now }

@@ -2,15 +2,16 @@
 ghost use Rattle.std.specs.Prelude.{◌≡◌, ◌<◌, ◌^◌, true, map, Some, IfOk};
 ghost use Rattle.std.specs.List.{list_all};
 ghost use Rattle.std.specs.Option.{option_flatten};
-ghost use Rattle.qc_widths.specs.GivenFacts.{first_given, given_number, given_cell, given_in, word_given as word_of_item, order_of as order_of_syntax, order_given as order_of_item, allocatable_given as allocatable_of_item};
-ghost use Rattle.qc_widths.specs.Declarations.{facts_in};
+ghost use Rattle.qc_widths.specs.GivenFacts.{first_given, given_number, given_cell, given_in};
+ghost use Rattle.qc_widths.specs.GivenFacts.{word_given as word_of_item, order_of as order_of_syntax};
+ghost use Rattle.qc_widths.specs.GivenFacts.{order_given as order_of_item, allocatable_given as allocatable_of_item};
+ghost use Rattle.qc_facts.specs.Facts.{facts_in};
 ghost use Rattle.qc_widths.specs.Machine.{space_of};
 ghost use Rattle.qc_widths.specs.Inner.Given.{size_of_item, cell_of_item, has_small_cells, is_small_space};
 
-use crate::facts::{Facts, SpaceFacts};
 use crate::nodes::bits_of;
-use crate::numbers::width_in;
 use qc_descr::{Given, Space};
+use qc_facts::{Facts, SpaceFacts, width_in};
 use qc_grammar::{Ident, Number};
 use qc_lrtl::{ByteOrder, Item};
 use qc_terms::Order;

@@ -1,19 +1,18 @@
 //! Limits, and the acts of instructions within them.
 ghost use Rattle.std.specs.Prelude.{◌≡◌, ◌++◌, suc, IfOk};
-ghost use Rattle.qc_widths.specs.TextFaults.{more_than as faults_above};
+ghost use Rattle.qc_widths.specs.TextFaults.{more_than as faults_above, limit_faults, clashes_within};
+ghost use Rattle.qc_widths.specs.TextFaults.{acts_of_instruction as all_acts};
 ghost use Rattle.qc_descr.specs.Limits.{most_cells, most_spaces};
-ghost use Rattle.qc_widths.specs.TextFaults.{limit_faults, clashes_within, acts_of_instruction as all_acts};
-ghost use Rattle.qc_widths.specs.Faults.{reported};
-ghost use Rattle.qc_widths.specs.Declarations.{meanings_in};
-ghost use Rattle.qc_widths.specs.Numbers.{width_faults};
+ghost use Rattle.qc_facts.specs.Faults.{reported};
+ghost use Rattle.qc_resolve.specs.Declarations.{meanings_in};
+ghost use Rattle.qc_facts.specs.Numbers.{width_faults};
 ghost use Rattle.qc_widths.specs.Inner.Elaboration.{IsContext, EffectsUnless};
 
 use crate::acts::Acts;
 use crate::context::Context;
-use crate::faults::WidthFault;
 use crate::gather::acts_in;
-use crate::numbers::width_fault;
 use crate::value::MOST_NODES;
+use qc_facts::{WidthFault, width_fault};
 use qc_grammar::Number;
 use qc_lrtl::Operand;
 use qc_names::earlier;

@@ -1,21 +1,22 @@
 //! What each node of an expression comes to, by what its parts come to.
-ghost use Rattle.std.specs.Prelude.{ℕ, ◌≡◌, ◌≤◌, ◌+◌, ◌<◌, ◌^◌, ◌&&◌, min, IfOk, if◌then◌else◌, List, Option, None, false, is_some};
+ghost use Rattle.std.specs.Prelude.{ℕ, ◌≡◌, ◌≤◌, ◌+◌, ◌<◌, ◌^◌, ◌&&◌, min, IfOk, if◌then◌else◌, List, Option, None};
+ghost use Rattle.std.specs.Prelude.{false, is_some};
 ghost use Rattle.qc_words.specs.Operators.{is_unary as is_unary_operator, result_width_of};
 ghost use Rattle.qc_words.specs.declared.operator.Op.TheVariants as op;
 ghost use Rattle.qc_terms.specs.declared.term.Term.TheVariants as term;
-ghost use Rattle.qc_widths.specs.declared.faults.WidthFault.{WidthFault as Fault};
+ghost use Rattle.qc_facts.specs.declared.faults.WidthFault.{WidthFault as Fault};
 ghost use Rattle.qc_widths.specs.Inner.KeptValues.{IsValue, nodes_in};
-ghost use Rattle.qc_widths.specs.Expressions.{value_of_cell};
-ghost use Rattle.qc_widths.specs.Faults.{reported};
-ghost use Rattle.qc_widths.specs.Numbers.{is_empty};
-ghost use Rattle.qc_widths.specs.Numbers as numbers;
-ghost use Rattle.qc_widths.specs.Scopes as scopes;
-ghost use Rattle.qc_widths.specs.Values as values;
+ghost use Rattle.qc_resolve.specs.Expressions.{value_of_cell};
+ghost use Rattle.qc_facts.specs.Faults.{reported};
+ghost use Rattle.qc_facts.specs.Numbers.{is_empty};
+ghost use Rattle.qc_facts.specs.Numbers as numbers;
+ghost use Rattle.qc_resolve.specs.Scopes as scopes;
+ghost use Rattle.qc_facts.specs.Values as values;
 
-use crate::facts::{Facts, OperandFacts, Target};
-use crate::faults::WidthFault;
-use crate::numbers::{access_fault, access_width, literal_fault, width_in};
 use crate::value::{Built, MOST_NODES, Value, faulty, leaf, node};
+use qc_facts::{
+    Facts, OperandFacts, Target, WidthFault, access_fault, access_width, literal_fault, width_in,
+};
 use qc_grammar::Number;
 use qc_names::earlier;
 use qc_terms::{Place, Term};

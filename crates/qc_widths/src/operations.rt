@@ -1,21 +1,21 @@
 //! Instructions: their faults, and the operations that they are.
 ghost use Rattle.std.specs.Prelude.{◌≡◌, map, IfOk};
 ghost use Rattle.std.specs.List.{flat_map};
-ghost use Rattle.qc_widths.specs.TextFaults.{kind_faults, instruction_faults};
-ghost use Rattle.qc_widths.specs.Faults.{reported};
-ghost use Rattle.qc_widths.specs.Declarations.{facts_of_operand, meanings_in};
+ghost use Rattle.qc_facts.specs.Facts.{kind_faults, facts_of_operand};
+ghost use Rattle.qc_widths.specs.TextFaults.{instruction_faults};
+ghost use Rattle.qc_facts.specs.Faults.{reported};
+ghost use Rattle.qc_resolve.specs.Declarations.{meanings_in};
 ghost use Rattle.qc_widths.specs.Machine.{operation_of_item, kind_of as kind_of_facts};
 ghost use Rattle.qc_widths.specs.Inner.Elaboration.{IsContext, OperationUnless};
 ghost use Rattle.qc_lrtl.specs.declared.syntax.Item.TheVariants.{Instruction};
 
 use crate::bodies::instruction_fault;
 use crate::context::Context;
-use crate::facts::{Facts, OperandFacts};
-use crate::faults::WidthFault;
 use crate::limits::acts_within;
 use crate::nodes::bits_of;
 use crate::repeated::operand_names_fault;
 use qc_descr::{OperandKind, Operation};
+use qc_facts::{Facts, OperandFacts, WidthFault};
 use qc_grammar::Ident;
 use qc_lrtl::{Effect, Operand};
 use qc_names::earlier;

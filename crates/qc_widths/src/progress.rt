@@ -2,14 +2,14 @@
 ghost use Rattle.std.specs.Prelude.{◌≡◌, ◌++◌, ◌≤◌, ◌<◌, ◌^◌, [], length, IfOk, OnOk};
 ghost use Rattle.std.specs.List.{flat_map};
 ghost use Rattle.std.specs.Option.{option_to_list};
-ghost use Rattle.qc_widths.specs.Faults.{reported, reported_of_both};
+ghost use Rattle.qc_facts.specs.Faults.{reported, reported_of_both};
 ghost use Rattle.qc_widths.specs.Inner.Elaboration.{IsContext, OperationsUnless, all_signatures, counts_behind};
 ghost use Rattle.qc_widths.specs.Inner.Elaboration.{faults_of_item, operations_of_item, faults_of_items};
 
 use crate::context::Context;
-use crate::faults::WidthFault;
 use crate::items::{Counts, elaborate_item};
 use qc_descr::Operation;
+use qc_facts::WidthFault;
 use qc_lrtl::Item;
 use qc_names::earlier;
 use sqlite_items::Items;

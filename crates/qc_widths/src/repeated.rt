@@ -2,17 +2,18 @@
 ghost use Rattle.std.specs.Prelude.{◌≡◌, [], map, None, IfOk, OnOk};
 ghost use Rattle.std.specs.List.{flat_map};
 ghost use Rattle.std.specs.Option.{option_copied, option_to_list};
-ghost use Rattle.qc_widths.specs.TextFaults.{repeated_after, single_item, number_of_single, second_singles, params_faults, repeated as repeated_names, second_declarations as all_second_declarations};
+ghost use Rattle.qc_widths.specs.TextFaults.{repeated_after, single_item, number_of_single, second_singles};
+ghost use Rattle.qc_widths.specs.TextFaults.{params_faults, repeated as repeated_names};
+ghost use Rattle.qc_widths.specs.TextFaults.{second_declarations as all_second_declarations};
 ghost use Rattle.qc_names.specs.Tables.{HasNames};
-ghost use Rattle.qc_widths.specs.Faults.{reported};
+ghost use Rattle.qc_facts.specs.Faults.{reported};
 ghost use Rattle.qc_widths.specs.Inner.Repeated.{known_names, names_of, noted_all, single_name};
 
-use crate::faults::WidthFault;
-use crate::functions::name_of_function;
-use crate::operators::operator_names;
+use qc_facts::{WidthFault, operator_names};
 use qc_grammar::Ident;
 use qc_lrtl::{Item, Operand, Param};
 use qc_names::{Seen, earlier};
+use qc_resolve::name_of_function;
 use std::alloc::{AllocError, Global};
 
 /// The kinds of names that a text declares, each of which may stand once.

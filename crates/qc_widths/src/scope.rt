@@ -1,15 +1,16 @@
 //! What names stand for where an expression is evaluated.
 ghost use Rattle.std.specs.Prelude.{◌≡◌, ◌≤◌, ℕ, List, length};
-ghost use Rattle.qc_widths.specs.Declarations.{bound_operands, place_of};
+ghost use Rattle.qc_resolve.specs.Declarations.{bound_operands};
+ghost use Rattle.qc_facts.specs.Facts.{place_of, named, placed_from};
 ghost use Rattle.qc_widths.specs.Inner.KeptValues.{AreBelow, AreParams, IsFound, IsFoundBelow, IsScope, IsSettled};
 ghost use Rattle.qc_widths.specs.Inner.KeptValues.{meanings_of};
-ghost use Rattle.qc_widths.specs.Scopes as scopes;
-ghost use Rattle.qc_widths.specs.Scopes.{Bound as SpecBound, Meaning, Scope as SpecScope, bound_in, local_bound, named};
+ghost use Rattle.qc_resolve.specs.Scopes as scopes;
+ghost use Rattle.qc_resolve.specs.Scopes.{Bound as SpecBound, Meaning, Scope as SpecScope, bound_in, local_bound};
 
-use crate::facts::{Facts, OperandFacts, Target};
-use crate::functions::Functions;
 use crate::value::Value;
+use qc_facts::{Facts, OperandFacts, Target};
 use qc_lrtl::{Item, Operand, Param};
+use qc_resolve::Functions;
 use qc_words::Op;
 
 /// What a function that a parameter stands for is: an operator or a declared function, or none that fits.
@@ -83,7 +84,7 @@ pub(crate) enum Found<'a> {
 
 /// The place of the first parameter of a name.
 fn find_param(params: &[Param], name: &[u8]) -> Option<usize>
-    ensures { result ≡ place_of (scopes.placed_from 0 (λ p. p.name.text) params.now name.now) }
+    ensures { result ≡ place_of (placed_from 0 (λ p. p.name.text) params.now name.now) }
 {
     for (place, param) in params.iter().enumerate() {
         if param.name.text.as_slice() == name {
@@ -95,7 +96,7 @@ fn find_param(params: &[Param], name: &[u8]) -> Option<usize>
 
 /// The number of the first operand of a name.
 fn find_operand(operands: &[Operand], name: &[u8]) -> Option<usize>
-    ensures { result ≡ place_of (scopes.placed_from 0 (λ o. o.name.text) operands.now name.now) }
+    ensures { result ≡ place_of (placed_from 0 (λ o. o.name.text) operands.now name.now) }
 {
     for (place, operand) in operands.iter().enumerate() {
         if operand.name.text.as_slice() == name {

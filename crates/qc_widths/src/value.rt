@@ -2,13 +2,13 @@
 ghost use Rattle.std.specs.Prelude.{◌≡◌, ◌≤◌, IfOk, List, false, nat_eq};
 ghost use Rattle.qc_words.specs.Operators.{is_unary as is_unary_operator, result_width_of};
 ghost use Rattle.qc_terms.specs.Tree.{tree_of, nodes_of};
-ghost use Rattle.qc_widths.specs.declared.faults.WidthFault.{WidthFault as Fault};
+ghost use Rattle.qc_facts.specs.declared.faults.WidthFault.{WidthFault as Fault};
 ghost use Rattle.qc_widths.specs.Inner.KeptValues.{IsValue};
-ghost use Rattle.qc_widths.specs.Faults.{reported};
-ghost use Rattle.qc_widths.specs.Values as values;
+ghost use Rattle.qc_facts.specs.Faults.{reported};
+ghost use Rattle.qc_facts.specs.Values as values;
 
-use crate::faults::WidthFault;
 use crate::terms::copy_term;
+use qc_facts::WidthFault;
 use qc_names::earlier;
 use qc_terms::Term;
 use qc_words::{Op, Width};

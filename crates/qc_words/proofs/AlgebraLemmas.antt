@@ -6,11 +6,12 @@ use Rattle.std.proofs.Math.Nat.{mod-eq_of_lt, mod-add-mod, add-mod-mod, add-mod_
 use Rattle.std.proofs.lemmas.Nat.{pow_pos, and_comm, and_le_l, and_le_r, and_mask, and-not, mul-mod_first, mul-mod_second, xor_lt, or_lt}
 use Rattle.std.proofs.lemmas.Nat.Bits.{same_from_bits, bit_at_or, bit_at_above, and_pow}
 use Rattle.std.proofs.lemmas.Bool.{cases_lt, cases_eq}
+use Rattle.qc_lists.specs.Law.Powers.{twice_half}
 use Rattle.qc_words.specs.Operators.{result_of, complement_of, difference_of, negation_of, truth_of}
 use Rattle.qc_words.specs.Words.{signed_of}
 use Rattle.qc_words.specs.declared.operator.Op.TheVariants.{Add, Sub, Mul, And, Or, Xor, Com, Neg, Eq, Ne, Lt, Ltu}
 use Rattle.qc_words.proofs.ArithmeticLemmas.{difference_of-natural, negation_of-natural}
-use Rattle.qc_words.proofs.WordLemmas.{twice_half, sign_bit-high, signed_of-low, signed_of-high}
+use Rattle.qc_words.proofs.WordLemmas.{sign_bit-high, signed_of-low, signed_of-high}
 
 -- ---- order
 

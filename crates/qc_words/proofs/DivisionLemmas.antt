@@ -4,12 +4,13 @@ use Rattle.std.proofs.Math.Nat.{mod-lt, div-le_self, div-lt_self, div-one, mod-o
 use Rattle.std.proofs.lemmas.Nat.{pow_pos, div-add-mod'}
 use Rattle.std.proofs.lemmas.Bool.{cases_lt}
 use Rattle.std.proofs.lemmas.Int.{ints, quot-rem, rem_below}
+use Rattle.qc_lists.specs.Law.Powers.{twice_half}
 use Rattle.qc_words.specs.Operators.{result_of}
 use Rattle.qc_words.specs.Words.{signed_of, word_of, FitsSignedWord}
 use Rattle.qc_words.specs.declared.operator.Op.TheVariants.{Divu, Modu, Quot, Rem}
 use Rattle.qc_words.proofs.ArithmeticLemmas.{positive_test}
 use Rattle.qc_words.specs.Law.Results.{word_of-pos}
-use Rattle.qc_words.proofs.WordLemmas.{twice_half, signed_of-low, signed_of-high, signed_of-range, signed_of-word_of}
+use Rattle.qc_words.proofs.WordLemmas.{signed_of-low, signed_of-high, signed_of-range, signed_of-word_of}
 
 pub quotient_of-unsigned : (w a b : ℕ) → 0 < b → result_of Divu w a b * b + result_of Modu w a b ≡ a
 quotient_of-unsigned w a zero positive = absurd (omega arith)

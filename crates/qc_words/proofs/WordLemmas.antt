@@ -1,21 +1,15 @@
 -- Lemmas on words of any width.
 use Rattle.std.proofs.Common.{FitsSigned, ◌≡◌, ℕ, suc, ◌+◌, ◌-◌, ◌*◌, ◌%◌, ◌^◌, ◌<◌, ◌≤◌, ◌/◌, ℤ, pos, negsuc, min, inl, inr, add-zero, sym, ◌∙◌, ap, subst, arith}
-use Rattle.std.proofs.Math.Nat.{pow-le-pow_right, mod-eq_of_lt, two-pow-succ, mod-mod_of_dvd, mod-lt, dvd-mul_left, div-one}
+use Rattle.std.proofs.Math.Nat.{pow-le-pow_right, mod-eq_of_lt, mod-mod_of_dvd, mod-lt, dvd-mul_left, div-one}
 use Rattle.std.proofs.lemmas.Nat.{pow_pos, pow-add, mod_low, shr_high, shr_split, shr-shr, div_below, le-div}
 use Rattle.std.proofs.lemmas.Bool.{cases_lt}
 use Rattle.std.proofs.lemmas.Int.{ints}
 use Rattle.std.proofs.lemmas.Nat.Bits.{bit_at_cat_low, bit_at_cat_high, bit_at_above, bit_at-lt, bit_at-zero}
 use Rattle.std.specs.Int.{◌∣◌, bit_at, int_shr, w128, cast_unsigned}
+use Rattle.qc_lists.specs.Law.Powers.{twice_half}
 use Rattle.qc_words.specs.Operators.{complement_of, amount_of, shift_left_of, slice_of, sign_extension_of}
 use Rattle.qc_words.specs.Words.{signed_of, word_of, FitsSignedWord}
 use Rattle.qc_words.specs.Law.Results.{word_of-pos, word_of-negsuc}
-
--- half of the words of a width are not negative
-pub twice_half : (w : ℕ) → 1 ≤ w → 2 ^ w ≡ 2 * 2 ^ (w - 1)
-twice_half w positive =
-    let step : w ≡ suc (w - 1) = omega arith in
-    let e : 2 ^ w ≡ 2 ^ suc (w - 1) = ap (λ k. 2 ^ k) step in
-    omega (arith, two-pow-succ (w - 1))
 
 -- ---- the signed number of a word
 

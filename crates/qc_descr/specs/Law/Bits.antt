@@ -1,19 +1,26 @@
 -- Each bit of a coding stands in one of its bytes in memory, and no other bits do.
 use Rattle.std.proofs.Common.{◌≡◌, ℕ, zero, suc, ◌+◌, ◌*◌, ◌/◌, ◌<◌, List, [], ◌∷◌, length, take, drop, sum, Bool, true, false, cond, IsTrue, refl, sym, ◌∙◌, ap, subst, arith, inl, inr, count_by, nat_eq}
-use Rattle.std.specs.Prelude.{reverse}
+use Rattle.std.specs.Prelude.{reverse, slice_index}
 use Rattle.std.specs.List.{AllByRecursion, list_all, list_any}
 use Rattle.std.proofs.lemmas.Bool.{and_from, and_parts, both_ways, cases_Bool, cases_eq, eq-eqb, eqb-true, or_cases, or_left, or_parts, or_right}
 use Rattle.std.proofs.lemmas.List.{drop-take, length-drop, nil_from_length, reverse-append, take-append-drop, take-take}
 use Rattle.std.proofs.lemmas.List.Sums.{sum_by-cons}
+use Rattle.std.proofs.lemmas.Nat.Bits.{bit_at-lt}
 use Rattle.qc_lists.specs.Law.Lists.{each_append, each_of_append}
 use Rattle.qc_terms.specs.declared.state.Order.{Order}
 use Rattle.qc_terms.specs.declared.state.Order.TheVariants.{Little, Big}
 use Rattle.qc_descr.specs.declared.coding.Bit.{Bit}
 use Rattle.qc_descr.specs.declared.coding.Bit.TheVariants.{Fixed, Piece}
 use Rattle.qc_descr.specs.declared.coding.Coding.{Coding}
-use Rattle.qc_descr.specs.Coding.{bytes_of_bits, is_piece, memory_bytes, token_bytes, tokens_bytes}
+use Rattle.qc_descr.specs.Coding.{bit_value, bytes_of_bits, is_piece, memory_bytes, token_bytes, tokens_bytes}
 use Rattle.qc_descr.specs.Valid.{all_below, is_token}
 use Rattle.qc_descr.specs.Law.Places.{token_size}
+
+-- a bit of a coding is 0 or 1, whatever the operands are
+pub bit_value-lt : (operands : List ℕ) (b : Bit) → bit_value operands b < 2
+bit_value-lt operands (Fixed true) = omega arith
+bit_value-lt operands (Fixed false) = omega arith
+bit_value-lt operands (Piece operand bit) = bit_at-lt (slice_index operands operand) bit
 
 -- what holds of each element of a list, by recursion on it
 pub each_of_parts : {X : Type 0} (P : X → Type 0) (n : ℕ) (xs : List X) → AllByRecursion P (take n xs) → AllByRecursion P (drop n xs) → AllByRecursion P xs

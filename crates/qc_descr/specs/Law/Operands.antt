@@ -6,7 +6,7 @@ use Rattle.std.specs.List.{slice_get}
 use Rattle.std.proofs.lemmas.Bool.{cases_lt, le-leb, lt-leb}
 use Rattle.std.proofs.lemmas.List.{take_more}
 use Rattle.std.proofs.lemmas.Option.{get_or_from_slice_get, slice_get-map, slice_get_read, slice_get_within}
-use Rattle.std.proofs.Math.Nat.{pow-succ'}
+use Rattle.qc_lists.specs.Law.Powers.{twice_half}
 use Rattle.qc_descr.specs.declared.coding.Reach.{Reach}
 use Rattle.qc_descr.specs.declared.coding.Reach.TheVariants.{Plain, Relative, Absolute}
 use Rattle.qc_descr.specs.declared.description.Description.{Description}
@@ -110,12 +110,6 @@ length-coded [] at (x ∷ xs) e = absurd (omega (arith, e))
 length-coded (r ∷ reaches) at [] e = refl
 length-coded (r ∷ reaches) at (x ∷ xs) e = ap suc (length-coded reaches at xs (omega (arith, e)))
 
--- a number of bits is twice one of a bit less
-pub double : (bits : ℕ) → 1 ≤ bits → 2 ^ bits ≡ 2 * 2 ^ (bits - 1)
-double bits some =
-    let e : bits ≡ suc (bits - 1) = omega arith in
-    ap (λ n. 2 ^ n) e ∙ pow-succ' 2 (bits - 1)
-
 relative_after : (bits at target : ℕ) → at ≤ target → relative_value bits at target ≡ target - at
 relative_after bits at target h = ap (λ t. cond t (target - at) (2 ^ bits - (at - target))) (le-leb at target h)
 
@@ -144,7 +138,7 @@ reached_once d k (Absolute bits) size at x y has a b e = e
 reached_once d (kind.Register space) (Relative bits) size at x y has a b e = absurd has
 reached_once d (kind.Imm width) (Relative bits) size at x y has a b e = absurd has
 reached_once d kind.Addr (Relative bits) size at x y has a b e =
-    let twice : 2 ^ bits ≡ 2 * 2 ^ (bits - 1) = double bits has.0 in
+    let twice : 2 ^ bits ≡ 2 * 2 ^ (bits - 1) = twice_half bits has.0 in
     let one = relative_is bits (2 ^ (bits - 1)) at x (relative_value bits at x) twice a.0 a.1 refl in
     let other = relative_is bits (2 ^ (bits - 1)) at y (relative_value bits at x) twice b.0 b.1 e in
     elim (cases_lt (relative_value bits at x) (2 ^ (bits - 1))) [

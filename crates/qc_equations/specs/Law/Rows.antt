@@ -1,10 +1,10 @@
 -- Each row of the table over numbers: both sides use the same parts and have the same width, the right side is typed
 -- where the left one is.
-use Rattle.std.proofs.Common.{◌≡◌, ℕ, ◌<◌, ◌≤◌, ◌-◌, ◌^◌, refl, arith, zero, suc}
-use Rattle.std.proofs.Math.Nat.{pow-le-pow_right}
+use Rattle.std.proofs.Common.{◌≡◌, ℕ, ◌<◌, ◌≤◌, ◌-◌, ◌^◌, refl, arith}
 use Rattle.std.proofs.Math.Pow.{ones_lt}
 use Rattle.std.proofs.lemmas.Nat.{pow_below, pow_pos}
 use Rattle.qc_lists.specs.Law.Powers.{below_power}
+use Rattle.qc_words.specs.Law.Results.{word_of_wider}
 use Rattle.qc_words.specs.declared.operator.Op.TheVariants.{Sub}
 use Rattle.qc_words.specs.Width.{IsWidth}
 use Rattle.qc_equations.specs.declared.names.Law.{Law}
@@ -56,11 +56,6 @@ one_fits word h = pow_below 0 word h
 least_fits : (word : ℕ) → 1 ≤ word → 2 ^ (word - 1) < 2 ^ word
 least_fits word h = pow_below (word - 1) word (omega arith)
 
-wider : (number size word : ℕ) → number < 2 ^ size → size ≤ word → number < 2 ^ word
-wider number size word fits h =
-    let more : 2 ^ size ≤ 2 ^ word = pow-le-pow_right (omega arith) h in
-    omega (arith, fits, more)
-
 -- ---- types
 
 low_typed : (word size : ℕ) → size ≤ word → IsTypedPattern signed_low word size
@@ -73,7 +68,7 @@ high_typed p word size h same typed = (
   tt,
   refl,
   (refl, omega arith, (refl, omega (arith, same), typed)),
-  wider size size word (below_power size) (omega arith),
+  word_of_wider size size word (below_power size) (omega arith),
 )
 
 split_typed : (word size : ℕ) → size < word → IsTypedPattern split word size
@@ -136,9 +131,9 @@ row_typed Part8 w m width suits typed = parted_typed w m (omega (arith, suits.0,
 row_typed Part12 w m width suits typed = parted_typed w m (omega (arith, suits.0, suits.1))
 row_typed Part16 w m width suits typed = parted_typed w m (omega (arith, suits.0, suits.1))
 row_typed ZxAnd w m width suits typed =
-    (refl, tt, refl, tt, wider (2 ^ m - 1) m w (ones_lt m) (omega (arith, typed.2.1)))
+    (refl, tt, refl, tt, word_of_wider (2 ^ m - 1) m w (ones_lt m) (omega (arith, typed.2.1)))
 row_typed AndZx w m width suits typed =
     let within : m ≤ w = omega (arith, suits.1) in (refl, within, (refl, omega (arith, within), tt))
 row_typed SxShifts w m width suits typed =
-    let rest = wider (w - m) (w - m) w (below_power (w - m)) (omega arith) in
+    let rest = word_of_wider (w - m) (w - m) w (below_power (w - m)) (omega arith) in
     (refl, tt, refl, (refl, tt, refl, tt, rest), rest)

@@ -2,12 +2,13 @@
 use Rattle.std.specs.Prelude.{ℕ, zero, suc, ◌≡◌, true, false, not, cond, ◌&&◌, List, [], ◌∷◌, ◌++◌, length, Ok, Err}
 use Rattle.std.proofs.Common.{refl, ap, sym, ◌∙◌, inl, inr, append_assoc}
 use Rattle.std.proofs.lemmas.List.{append-nil}
+use Rattle.std.proofs.lemmas.Bool.{and_parts, both_ways, cases_Bool, not-true}
 use Rattle.qc_grammar.specs.Lexeme.{Class, Lexeme, same_class}
 use Rattle.qc_grammar.specs.Grammar.{Grammar, terminal, empty, sequence, choice, action, repetition, nonterminal, Syntax}
 use Rattle.qc_grammar.specs.Language.{Phrases, PhraseBy, Derives, IsPhrase}
 use Rattle.qc_grammar.specs.Reading.{then_read, read_both, take_one, next_in, can_be_empty, first, reads_rule, reads}
 use Rattle.qc_grammar.specs.Law.LL1.{is_in, are_apart, is_clean, follow, IsClean}
-use Rattle.qc_grammar.specs.Law.Tests.{both_true, not_true, contrary, tested, apart, class_alike, next_first, next_second, next_within}
+use Rattle.qc_grammar.specs.Law.Tests.{apart, class_alike, next_first, next_second, next_within}
 use Rattle.qc_grammar.specs.Law.Phrases.{empty_phrase, phrase_first, phrases_first, no_empty, rule_head, rule_facts}
 use Rattle.qc_grammar.specs.Lists.{many}
 use Rattle.qc_grammar.specs.Law.Repeating.{step, one_more}
@@ -16,8 +17,8 @@ use Rattle.qc_grammar.specs.Law.Fuel.{unroll, exact}
 
 -- of two lists that are apart a class is in at most one
 pub apart_first : (xs ys : List Class) (c : Class) → are_apart xs ys ≡ true → is_in ys c ≡ true → is_in xs c ≡ false
-apart_first xs ys c e inside = elim (tested (is_in xs c)) [
-  | inl f ↦ absurd (contrary inside (apart xs ys c e f))
+apart_first xs ys c e inside = elim (cases_Bool (is_in xs c)) [
+  | inl f ↦ absurd (both_ways _ (apart xs ys c e f) inside)
   | inr f ↦ f
 ]
 
@@ -49,7 +50,7 @@ module _ {I : Type 0} {E : I → Type 0} (s : Syntax I E) (clean : IsClean s) wh
       (complete_many n g e token d one xs p.1 rest p.4 f)
     where
       begins : (ts : List Lexeme) → PhraseBy (Derives s n) g ts x → next_in (first s g) (ts ++ (p.1 ++ rest)) ≡ true
-      begins [] q = absurd (contrary (empty_phrase (Derives s n) (no_empty s clean n) g x q) token)
+      begins [] q = absurd (both_ways _ token (empty_phrase (Derives s n) (no_empty s clean n) g x q))
       begins (t ∷ ts) q = phrase_first (Derives s n) _ (no_empty s clean n) (rule_head s clean n) g t ts x q
 
       middle : (ts : List Lexeme) → Phrases (PhraseBy (Derives s n) g) ts xs → next_in (follow s g) (ts ++ rest) ≡ false
@@ -70,8 +71,8 @@ module _ {I : Type 0} {E : I → Type 0} (s : Syntax I E) (clean : IsClean s) wh
   complete_by n rules (empty x) e tokens tree rest p f =
       ap (λ ts. Ok (x, ts ++ rest)) p.0 ∙ ap (λ y. Ok (y, rest)) (sym p.1)
   complete_by n rules (sequence {A = X} {B = Y} g h) e tokens tree rest p f =
-      let parts : (is_clean s g && is_clean s h ≡ true) × (are_apart (follow s g) (first s h) ≡ true) = both_true e in
-      let each : (is_clean s g ≡ true) × (is_clean s h ≡ true) = both_true parts.0 in
+      let parts : (is_clean s g && is_clean s h ≡ true) × (are_apart (follow s g) (first s h) ≡ true) = and_parts _ _ e in
+      let each : (is_clean s g ≡ true) × (is_clean s h ≡ true) = and_parts _ _ parts.0 in
       ap (λ ts. read_both (reads s g) (reads s h) (ts ++ rest)) p.2
       ∙ ap (read_both (reads s g) (reads s h)) (append_assoc p.0 p.1 rest)
       ∙ ap (λ r. then_read r (λ x rest. then_read (reads s h rest) (λ y last. Ok ((x, y), last))))
@@ -91,15 +92,15 @@ module _ {I : Type 0} {E : I → Type 0} (s : Syntax I E) (clean : IsClean s) wh
           (phrase_first (Derives s n) _ (no_empty s clean n) (rule_head s clean n) h t ts tree.1 q)
   complete_by n rules (choice g h) e tokens tree rest p f =
       let parts : (is_clean s g && is_clean s h && not (can_be_empty g) ≡ true)
-      × (are_apart (first s g) (first s h) ≡ true) = both_true e in
-      let parts2 : (is_clean s g && is_clean s h ≡ true) × (not (can_be_empty g) ≡ true) = both_true parts.0 in
-      let each : (is_clean s g ≡ true) × (is_clean s h ≡ true) = both_true parts2.0 in
+      × (are_apart (first s g) (first s h) ≡ true) = and_parts _ _ e in
+      let parts2 : (is_clean s g && is_clean s h ≡ true) × (not (can_be_empty g) ≡ true) = and_parts _ _ parts.0 in
+      let each : (is_clean s g ≡ true) × (is_clean s h ≡ true) = and_parts _ _ parts2.0 in
       let after_h : next_in (follow s h ++ cond (can_be_empty h) (first s g) []) rest ≡ false =
       next_second (follow s g) (follow s h ++ cond (can_be_empty h) (first s g) []) rest f in
       elim p [
         | inl q ↦
             ap (λ b. cond b (reads s g (tokens ++ rest)) (reads s h (tokens ++ rest)))
-            (first_of (not_true parts2.1) tokens q)
+            (first_of (not-true _ parts2.1) tokens q)
             ∙ complete_by n rules g each.0 tokens tree rest q
             (next_first (follow s g) (follow s h ++ cond (can_be_empty h) (first s g) []) rest f)
         | inr q ↦
@@ -111,7 +112,7 @@ module _ {I : Type 0} {E : I → Type 0} (s : Syntax I E) (clean : IsClean s) wh
     where
       first_of : can_be_empty g ≡ false → (ts : List Lexeme) → PhraseBy (Derives s n) g ts tree
           → next_in (first s g) (ts ++ rest) ≡ true
-      first_of d [] q = absurd (contrary (empty_phrase (Derives s n) (no_empty s clean n) g tree q) d)
+      first_of d [] q = absurd (both_ways _ d (empty_phrase (Derives s n) (no_empty s clean n) g tree q))
       first_of d (t ∷ ts) q = phrase_first (Derives s n) _ (no_empty s clean n) (rule_head s clean n) g t ts tree q
 
       not_first : are_apart (first s g) (first s h) ≡ true
@@ -129,9 +130,9 @@ module _ {I : Type 0} {E : I → Type 0} (s : Syntax I E) (clean : IsClean s) wh
       ∙ ap (λ y. Ok (y, rest)) (sym p.2)
   complete_by n rules (repetition g) e tokens tree rest p f =
       let parts : (is_clean s g && not (can_be_empty g) ≡ true) × (are_apart (follow s g) (first s g) ≡ true) =
-      both_true e in
-      let each : (is_clean s g ≡ true) × (not (can_be_empty g) ≡ true) = both_true parts.0 in
-      complete_many n g each.0 (not_true each.1) parts.1 (complete_by n rules g each.0) tree tokens rest p f
+      and_parts _ _ e in
+      let each : (is_clean s g ≡ true) × (not (can_be_empty g) ≡ true) = and_parts _ _ parts.0 in
+      complete_many n g each.0 (not-true _ each.1) parts.1 (complete_by n rules g each.0) tree tokens rest p f
   complete_by n rules (nonterminal i) e tokens tree rest p f = rules i tokens tree rest p f
 
   complete_rule : (n : ℕ) (i : I) (tokens : List Lexeme) (tree : E i) (rest : List Lexeme)

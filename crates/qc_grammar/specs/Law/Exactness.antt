@@ -3,12 +3,13 @@
 use Rattle.std.specs.Prelude.{ℕ, zero, suc, ◌≡◌, ◌≤◌, ◌<◌, Bool, true, false, not, cond, ◌&&◌, List, [], ◌∷◌, ◌++◌, length, Some, Ok, Err}
 use Rattle.std.proofs.Common.{refl, ap, sym, ◌∙◌, inl, inr, subst, append_assoc, arith}
 use Rattle.std.proofs.lemmas.List.{length-append}
+use Rattle.std.proofs.lemmas.Bool.{and_parts, both_ways, not-true}
 use Rattle.qc_grammar.specs.Lexeme.{Class, Lexeme, same_class}
 use Rattle.qc_grammar.specs.Grammar.{Grammar, terminal, empty, sequence, choice, action, repetition, nonterminal, Syntax}
 use Rattle.qc_grammar.specs.Language.{Phrases, PhraseBy, Derives, IsPhrase, Begins}
 use Rattle.qc_grammar.specs.Reading.{Read, then_read, read_both, read_as, take_one, next_in, can_be_empty, first, read_by}
 use Rattle.qc_grammar.specs.Law.LL1.{is_clean, are_apart, follow, IsClean}
-use Rattle.qc_grammar.specs.Law.Tests.{both_true, not_true, contrary, one_class, next_class, next_alike, next_none, next_behind}
+use Rattle.qc_grammar.specs.Law.Tests.{one_class, next_class, next_alike, next_none, next_behind}
 use Rattle.qc_grammar.specs.Law.Phrases.{one_after_another, no_empty_phrase, phrase_of}
 use Rattle.qc_grammar.specs.Lists.{many}
 use Rattle.qc_grammar.specs.Law.Repeating.{step, one_more}
@@ -205,7 +206,7 @@ module _ {I : Type 0} {E : I → Type 0} (s : Syntax I E) (clean : IsClean s) wh
   found_consumes g read tokens x e p = go p.front p.split p.phrase
     where
       go : (front : List Lexeme) → tokens ≡ front ++ x.1 → IsPhrase s g front x.0 → length x.1 < length tokens
-      go [] f q = absurd (contrary (no_empty_phrase s clean g x.0 q) e)
+      go [] f q = absurd (both_ways _ e (no_empty_phrase s clean g x.0 q))
       go (t ∷ ts) f q = omega (arith, ap length f, length-append ts x.1)
 
   pub consumes_by : {A : Type 0} (g : Grammar I E A) (read : List Lexeme → Read A) → ((tokens : List Lexeme)
@@ -273,15 +274,15 @@ module _ {I : Type 0} {E : I → Type 0} (s : Syntax I E) (clean : IsClean s) wh
   exact_by R rules (empty x) e tokens =
       record { front = []; split = refl; phrase = record { depth = 0; is = (refl, refl) }; again = λ others _. refl }
   exact_by R rules (sequence g h) e tokens =
-      let parts : (is_clean s g && is_clean s h ≡ true) × (are_apart (follow s g) (first s h) ≡ true) = both_true e in
-      let each : (is_clean s g ≡ true) × (is_clean s h ≡ true) = both_true parts.0 in
+      let parts : (is_clean s g && is_clean s h ≡ true) × (are_apart (follow s g) (first s h) ≡ true) = and_parts _ _ e in
+      let each : (is_clean s g ≡ true) × (is_clean s h ≡ true) = and_parts _ _ parts.0 in
       exact_sequence g h (read_by s R g) (read_by s R h) tokens (exact_by R rules g each.0 tokens)
       (λ x _. exact_by R rules h each.1 x.1)
   exact_by R rules (choice g h) e tokens =
       let parts : (is_clean s g && is_clean s h && not (can_be_empty g) ≡ true)
-      × (are_apart (first s g) (first s h) ≡ true) = both_true e in
-      let parts2 : (is_clean s g && is_clean s h ≡ true) × (not (can_be_empty g) ≡ true) = both_true parts.0 in
-      let each : (is_clean s g ≡ true) × (is_clean s h ≡ true) = both_true parts2.0 in
+      × (are_apart (first s g) (first s h) ≡ true) = and_parts _ _ e in
+      let parts2 : (is_clean s g && is_clean s h ≡ true) × (not (can_be_empty g) ≡ true) = and_parts _ _ parts.0 in
+      let each : (is_clean s g ≡ true) × (is_clean s h ≡ true) = and_parts _ _ parts2.0 in
       chosen (Exact s (choice g h) (read_by s R (choice g h)) tokens) (next_in (first s g) tokens)
       (read_by s R g tokens) (read_by s R h tokens)
       (λ f. carry s g (choice g h) (read_by s R g) (read_by s R (choice g h)) tokens
@@ -298,8 +299,8 @@ module _ {I : Type 0} {E : I → Type 0} (s : Syntax I E) (clean : IsClean s) wh
       exact_action s f g (read_by s R g) tokens (read_by s R g tokens) (exact_by R rules g e tokens)
   exact_by R rules (repetition g) e tokens =
       let parts : (is_clean s g && not (can_be_empty g) ≡ true) × (are_apart (follow s g) (first s g) ≡ true) =
-      both_true e in
-      let each : (is_clean s g ≡ true) × (not (can_be_empty g) ≡ true) = both_true parts.0 in
-      exact_repetition g (read_by s R g) (exact_by R rules g each.0) (not_true each.1) (length tokens) tokens
+      and_parts _ _ e in
+      let each : (is_clean s g ≡ true) × (not (can_be_empty g) ≡ true) = and_parts _ _ parts.0 in
+      exact_repetition g (read_by s R g) (exact_by R rules g each.0) (not-true _ each.1) (length tokens) tokens
       (omega arith)
   exact_by R rules (nonterminal i) e tokens = rules i tokens

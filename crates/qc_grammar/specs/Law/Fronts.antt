@@ -5,18 +5,14 @@ use Rattle.std.specs.Option.{option_map}
 use Rattle.std.proofs.Common.{refl, ap, sym, ◌∙◌, inl, inr, subst, append_assoc, arith}
 use Rattle.std.proofs.lemmas.List.{take-append-drop, take-take}
 use Rattle.std.proofs.lemmas.List.Folds.{list_any-append}
+use Rattle.std.proofs.lemmas.Bool.{and_parts, not-true}
 use Rattle.qc_text.specs.declared.token.Kind.TheVariants as kind
 use Rattle.qc_grammar.specs.Lexeme.{Any, Lexeme, same_class}
 use Rattle.qc_grammar.specs.Grammar.{Grammar, terminal, empty, sequence, choice, action, repetition, nonterminal, Syntax}
 use Rattle.qc_grammar.specs.Language.{Phrases, PhraseBy, Derives, IsPhrase, Begins}
 use Rattle.qc_grammar.specs.Law.LL1.{is_endless, IsClean}
 use Rattle.qc_grammar.specs.Brackets.{is_shallow, open_after, first_too_deep, most_open}
-use Rattle.qc_grammar.specs.Law.Tests.{both_true, not_true}
 use Rattle.qc_grammar.specs.Law.Phrases.{rule_facts}
-
-pub take_front : (front rest : List Lexeme) → take (length front) (front ++ rest) ≡ front
-take_front [] rest = refl
-take_front (t ∷ ts) rest = ap (λ us. t ∷ us) (take_front ts rest)
 
 pub take_one_more : (front : List Lexeme) (t : Lexeme) (rest : List Lexeme)
     → take (suc (length front)) (front ++ t ∷ rest) ≡ front ++ t ∷ []
@@ -57,7 +53,7 @@ pub shallow_front : (n : ℕ) (front rest : List Lexeme) → is_shallow n (front
 shallow_front n [] rest e = refl
 shallow_front n (t ∷ ts) rest e =
     let parts : (nat_le (open_after n t) most_open ≡ true) × (is_shallow (open_after n t) (ts ++ rest) ≡ true) =
-    both_true e in
+    and_parts _ _ e in
     ap (λ b. b && is_shallow (open_after n t) ts) parts.0 ∙ shallow_front (open_after n t) ts rest parts.1
 
 pub shallow_take : (n : ℕ) (tokens : List Lexeme) (j m : ℕ) → j ≤ m → is_shallow n (take m tokens) ≡ true
@@ -140,15 +136,15 @@ module _ {I : Type 0} {E : I → Type 0} (s : Syntax I E) (clean : IsClean s) wh
       → has_end tokens ≡ false) → {A : Type 0} (g : Grammar I E A) → is_endless g ≡ true
       → (tokens : List Lexeme) (tree : A) → PhraseBy (Derives s n) g tokens tree → has_end tokens ≡ false
   no_end_by n rules (terminal c) e tokens tree p =
-      ap has_end p.0 ∙ ap (λ d. same_class d (Any kind.End) || false) p.1 ∙ ap (λ b. b || false) (not_true e)
+      ap has_end p.0 ∙ ap (λ d. same_class d (Any kind.End) || false) p.1 ∙ ap (λ b. b || false) (not-true _ e)
   no_end_by n rules (empty x) e tokens tree p = ap has_end p.0
   no_end_by n rules (sequence g h) e tokens tree p =
-      let each : (is_endless g ≡ true) × (is_endless h ≡ true) = both_true e in
+      let each : (is_endless g ≡ true) × (is_endless h ≡ true) = and_parts _ _ e in
       ap has_end p.2
       ∙ no_end_append p.0 p.1 (no_end_by n rules g each.0 p.0 tree.0 p.3)
       (no_end_by n rules h each.1 p.1 tree.1 p.4)
   no_end_by n rules (choice g h) e tokens tree p =
-      let each : (is_endless g ≡ true) × (is_endless h ≡ true) = both_true e in
+      let each : (is_endless g ≡ true) × (is_endless h ≡ true) = and_parts _ _ e in
       elim p [
         | inl q ↦ no_end_by n rules g each.0 tokens tree q
         | inr q ↦ no_end_by n rules h each.1 tokens tree q

@@ -2,12 +2,13 @@
 use Rattle.std.specs.Prelude.{ℕ, zero, suc, ◌≡◌, ◌⊎◌, ◌+◌, ◌≤◌, ◌<◌, true, false, not, cond, ◌&&◌, List, [], ◌∷◌, ◌++◌, length, Ok, Err}
 use Rattle.std.proofs.Common.{refl, ap, sym, ◌∙◌, inl, inr, subst, arith}
 use Rattle.std.proofs.lemmas.List.{length-append, append_cancel_right}
+use Rattle.std.proofs.lemmas.Bool.{and_parts, not-true}
 use Rattle.qc_grammar.specs.Lexeme.{Lexeme}
 use Rattle.qc_grammar.specs.Grammar.{Grammar, terminal, empty, sequence, choice, action, repetition, nonterminal, Syntax}
 use Rattle.qc_grammar.specs.Language.{PhraseBy, Derives, IsPhrase}
 use Rattle.qc_grammar.specs.Reading.{Read, then_read, next_in, can_be_empty, first, read_by, read_rule, reads_rule, reads, repeated}
 use Rattle.qc_grammar.specs.Law.LL1.{is_clean, are_apart, follow, is_guarded, IsClean}
-use Rattle.qc_grammar.specs.Law.Tests.{both_true, not_true, next_class}
+use Rattle.qc_grammar.specs.Law.Tests.{next_class}
 use Rattle.qc_grammar.specs.Law.Phrases.{no_empty_phrase, phrase_of, rule_facts}
 use Rattle.qc_grammar.specs.Law.Repeating.{both_alike}
 use Rattle.qc_grammar.specs.Law.Exactness.{Found, Stopped, Exact, carry, exact_by, consumes_by}
@@ -36,7 +37,7 @@ module _ {I : Type 0} {E : I → Type 0} (s : Syntax I E) (clean : IsClean s) wh
       go : (front : List Lexeme) → tokens ≡ front ++ x.1 → IsPhrase s g front x.0 → Within k (sequence g h) tokens
           → Within k h x.1
       go [] e q (inl f) =
-          let parts : (is_guarded g ≡ true) × (cond (can_be_empty g) (is_guarded h) true ≡ true) = both_true f.0 in
+          let parts : (is_guarded g ≡ true) × (cond (can_be_empty g) (is_guarded h) true ≡ true) = and_parts _ _ f.0 in
           inl (
             ap (λ b. cond b (is_guarded h) true) (sym (no_empty_phrase s clean g x.0 q))
                 ∙ parts.1,
@@ -70,8 +71,8 @@ module _ {I : Type 0} {E : I → Type 0} (s : Syntax I E) (clean : IsClean s) wh
   same_reading k R S agree exact (terminal c) e tokens w = refl
   same_reading k R S agree exact (empty x) e tokens w = refl
   same_reading k R S agree exact (sequence g h) e tokens w =
-      let parts : (is_clean s g && is_clean s h ≡ true) × (are_apart (follow s g) (first s h) ≡ true) = both_true e in
-      let each : (is_clean s g ≡ true) × (is_clean s h ≡ true) = both_true parts.0 in
+      let parts : (is_clean s g && is_clean s h ≡ true) × (are_apart (follow s g) (first s h) ≡ true) = and_parts _ _ e in
+      let each : (is_clean s g ≡ true) × (is_clean s h ≡ true) = and_parts _ _ parts.0 in
       both_alike (read_by s R g) (read_by s S g) (read_by s R h) (read_by s S h) tokens
       (same_reading k R S agree exact g each.0 tokens (first_part w))
       (λ x f. same_reading k R S agree exact h each.1 x.1
@@ -79,33 +80,33 @@ module _ {I : Type 0} {E : I → Type 0} (s : Syntax I E) (clean : IsClean s) wh
       (subst (Exact s g (read_by s R g) tokens) f (exact_by s clean R exact g each.0 tokens))))
     where
       first_part : Within k (sequence g h) tokens → Within k g tokens
-      first_part (inl f) = inl ((both_true f.0).0, f.1)
+      first_part (inl f) = inl ((and_parts _ _ f.0).0, f.1)
       first_part (inr f) = inr f
   same_reading k R S agree exact (choice g h) e tokens w =
       let parts : (is_clean s g && is_clean s h && not (can_be_empty g) ≡ true)
-      × (are_apart (first s g) (first s h) ≡ true) = both_true e in
-      let parts2 : (is_clean s g && is_clean s h ≡ true) × (not (can_be_empty g) ≡ true) = both_true parts.0 in
-      let each : (is_clean s g ≡ true) × (is_clean s h ≡ true) = both_true parts2.0 in
+      × (are_apart (first s g) (first s h) ≡ true) = and_parts _ _ e in
+      let parts2 : (is_clean s g && is_clean s h ≡ true) × (not (can_be_empty g) ≡ true) = and_parts _ _ parts.0 in
+      let each : (is_clean s g ≡ true) × (is_clean s h ≡ true) = and_parts _ _ parts2.0 in
       ap (λ r. cond (next_in (first s g) tokens) r (read_by s R h tokens))
       (same_reading k R S agree exact g each.0 tokens (left w))
       ∙ ap (λ r. cond (next_in (first s g) tokens) (read_by s S g tokens) r)
       (same_reading k R S agree exact h each.1 tokens (right w))
     where
       left : Within k (choice g h) tokens → Within k g tokens
-      left (inl f) = inl ((both_true f.0).0, f.1)
+      left (inl f) = inl ((and_parts _ _ f.0).0, f.1)
       left (inr f) = inr f
 
       right : Within k (choice g h) tokens → Within k h tokens
-      right (inl f) = inl ((both_true f.0).1, f.1)
+      right (inl f) = inl ((and_parts _ _ f.0).1, f.1)
       right (inr f) = inr f
   same_reading k R S agree exact (action f g) e tokens w =
       ap (λ r. then_read r (λ x rest. Ok (f x, rest))) (same_reading k R S agree exact g e tokens w)
   same_reading k R S agree exact (repetition g) e tokens w =
       let parts : (is_clean s g && not (can_be_empty g) ≡ true) × (are_apart (follow s g) (first s g) ≡ true) =
-      both_true e in
-      let each : (is_clean s g ≡ true) × (not (can_be_empty g) ≡ true) = both_true parts.0 in
+      and_parts _ _ e in
+      let each : (is_clean s g ≡ true) × (not (can_be_empty g) ≡ true) = and_parts _ _ parts.0 in
       same_repeated k g (read_by s R g) (read_by s S g) (same_reading k R S agree exact g each.0)
-      (consumes_by s clean g (read_by s R g) (exact_by s clean R exact g each.0) (not_true each.1)) (length tokens)
+      (consumes_by s clean g (read_by s R g) (exact_by s clean R exact g each.0) (not-true _ each.1)) (length tokens)
       tokens w
   same_reading k R S agree exact (nonterminal i) e tokens (inl f) = absurd (let g : false ≡ true = f.0 in cc)
   same_reading k R S agree exact (nonterminal i) e tokens (inr f) = agree i tokens f

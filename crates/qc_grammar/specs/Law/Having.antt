@@ -3,6 +3,7 @@ use Rattle.std.specs.Prelude.{ℕ, suc, ◌≡◌, Bool, true, false, List, [], 
 use Rattle.std.specs.List.{AllByRecursion}
 use Rattle.std.proofs.Common.{refl, sym, subst, inl, inr}
 use Rattle.std.proofs.lemmas.List.Elements.{All-cons, All-from_recursion}
+use Rattle.qc_lists.specs.Law.Lists.{each_of_append}
 use Rattle.qc_text.specs.declared.token.Kind.{Kind}
 use Rattle.qc_text.specs.declared.token.Kind.TheVariants.{Name, Prim, Number, Str, Punct, End}
 use Rattle.qc_text.specs.declared.token.Token.{Token}
@@ -14,13 +15,6 @@ use Rattle.qc_grammar.specs.Grammar as grammar
 use Rattle.qc_grammar.specs.Grammar.{Grammar, terminal, empty, sequence, choice, action, repetition, nonterminal, separated, word, ◌*>◌}
 use Rattle.qc_grammar.specs.Language.{Phrases, PhraseBy, Derives, IsPhrase}
 use Rattle.qc_grammar.specs.TextAnswer.{AnswersText}
-
--- what holds of each of two lists' things
-halves : {X : Type 0} (P : X → Type 0) (front rest : List X) → AllByRecursion P (front ++ rest)
-    → AllByRecursion P front × AllByRecursion P rest
-halves P [] rest all = (tt, all)
-halves P (x ∷ front) rest all =
-    let more : AllByRecursion P front × AllByRecursion P rest = halves P front rest all.1 in ((all.0, more.0), more.1)
 
 -- `T` is what each token has.
 module _ {I : Type 0} {E : I → Type 0} (s : grammar.Syntax I E) (T : Lexeme → Type 0) where
@@ -67,7 +61,7 @@ module _ {I : Type 0} {E : I → Type 0} (s : grammar.Syntax I E) (T : Lexeme �
       → Phrases (PhraseBy (Derives s depth) g) tokens xs → AllByRecursion T tokens → AllByRecursion (IsTreeFrom g) xs
   items_from g depth [] tokens p each = tt
   items_from g depth (x ∷ xs) tokens p each =
-      let both : AllByRecursion T p.0 × AllByRecursion T p.1 = halves T p.0 p.1 (subst (AllByRecursion T) p.2 each) in (
+      let both : AllByRecursion T p.0 × AllByRecursion T p.1 = each_of_append T p.0 p.1 (subst (AllByRecursion T) p.2 each) in (
         record { tokens = p.0; each = both.0; phrase = record { depth = depth; is = p.3 } },
         items_from g depth xs p.1 p.4 both.1,
       )
@@ -77,7 +71,7 @@ module _ {I : Type 0} {E : I → Type 0} (s : grammar.Syntax I E) (T : Lexeme �
   phrase_has depth (terminal c) tokens tree p each P e = e tree p.1 (subst (AllByRecursion T) p.0 each).0
   phrase_has depth (empty x) tokens tree p each P e = subst P (sym p.1) e
   phrase_has depth (sequence g h) tokens tree p each P e =
-      let both : AllByRecursion T p.0 × AllByRecursion T p.1 = halves T p.0 p.1 (subst (AllByRecursion T) p.2 each) in
+      let both : AllByRecursion T p.0 × AllByRecursion T p.1 = each_of_append T p.0 p.1 (subst (AllByRecursion T) p.2 each) in
       phrase_has depth h p.1 tree.1 p.4 both.1 (λ y. P (tree.0, y))
       (phrase_has depth g p.0 tree.0 p.3 both.0 (λ x. EachHas h (λ y. P (x, y))) e)
   phrase_has depth (choice g h) tokens tree p each P e = elim p [
@@ -157,7 +151,7 @@ names_kept s g vocabulary P e kinds bytes (Ok tree) answers =
     let o = answers.is in
     let p = o.is.phrase.is in
     let each = names_from vocabulary bytes 0 [] o.tokens (λ i token h. kinds bytes o.tokens i token o.are h) in
-    let front : AllByRecursion (IsFreeIfName vocabulary) p.1.0 = (halves (IsFreeIfName vocabulary) p.1.0 p.1.1
+    let front : AllByRecursion (IsFreeIfName vocabulary) p.1.0 = (each_of_append (IsFreeIfName vocabulary) p.1.0 p.1.1
     (subst (AllByRecursion (IsFreeIfName vocabulary)) p.1.2 each)).0 in
     subst P (sym p.2)
     (tree_has s (IsFreeIfName vocabulary) g P e p.0.0

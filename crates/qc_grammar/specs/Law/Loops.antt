@@ -2,6 +2,7 @@
 use Rattle.std.specs.Prelude.{ℕ, ◌≡◌, true, false, not, cond, ◌&&◌, ◌<◌, List, [], ◌∷◌, ◌++◌, length, Result, Ok, Err}
 use Rattle.std.proofs.Common.{refl, ap, sym, ◌∙◌, append_assoc}
 use Rattle.std.proofs.lemmas.List.{append-nil}
+use Rattle.std.proofs.lemmas.Bool.{and_parts, not-true}
 use Rattle.qc_grammar.specs.declared.cursor.Stop.{Stop}
 use Rattle.qc_grammar.specs.declared.cursor.Stop.TheVariants.{At, NoMemory}
 use Rattle.qc_grammar.specs.Lexeme.{Lexeme}
@@ -9,7 +10,6 @@ use Rattle.qc_grammar.specs.Grammar.{Grammar, repetition, Syntax}
 use Rattle.qc_grammar.specs.Reading.{Read, then_read, next_in, can_be_empty, first, reads}
 use Rattle.qc_grammar.specs.ReaderResult.{Gives}
 use Rattle.qc_grammar.specs.Law.LL1.{is_clean, are_apart, follow, IsClean}
-use Rattle.qc_grammar.specs.Law.Tests.{both_true, not_true}
 use Rattle.qc_grammar.specs.Lists.{many}
 use Rattle.qc_grammar.specs.Law.Repeating.{step, one_more}
 use Rattle.qc_grammar.specs.Law.Exactness.{consumes_by}
@@ -47,9 +47,9 @@ module _ {I : Type 0} {E : I → Type 0} (s : Syntax I E) (clean : IsClean s) {A
       (one_more (reads s g) (many (reads s g) (first s g)) tokens) (Ok ([], tokens))
   one_step tokens =
       let parts : (is_clean s g && not (can_be_empty g) ≡ true) × (are_apart (follow s g) (first s g) ≡ true) =
-      both_true repeats in
-      let each : (is_clean s g ≡ true) × (not (can_be_empty g) ≡ true) = both_true parts.0 in
-      step (reads s g) (first s g) (consumes_by s clean g (reads s g) (exact s clean g each.0) (not_true each.1)) tokens
+      and_parts _ _ repeats in
+      let each : (is_clean s g ≡ true) × (not (can_be_empty g) ≡ true) = and_parts _ _ parts.0 in
+      step (reads s g) (first s g) (consumes_by s clean g (reads s g) (exact s clean g each.0) (not-true _ each.1)) tokens
 
   -- one more item was read
   pub loop_goes_on : (items : List A) (x : A) (tokens rest : List Lexeme) → next_in (first s g) tokens ≡ true
@@ -101,9 +101,9 @@ module _ {I : Type 0} {E : I → Type 0} (s : Syntax I E) (clean : IsClean s) {A
       → length rest < length tokens
   loop_shortens x tokens rest e =
       let parts : (is_clean s g && not (can_be_empty g) ≡ true) × (are_apart (follow s g) (first s g) ≡ true) =
-      both_true repeats in
-      let each : (is_clean s g ≡ true) × (not (can_be_empty g) ≡ true) = both_true parts.0 in
-      consumes_by s clean g (reads s g) (exact s clean g each.0) (not_true each.1) tokens (x, rest) e
+      and_parts _ _ repeats in
+      let each : (is_clean s g ≡ true) × (not (can_be_empty g) ≡ true) = and_parts _ _ parts.0 in
+      consumes_by s clean g (reads s g) (exact s clean g each.0) (not-true _ each.1) tokens (x, rest) e
 
 -- a function that returned what one reading gives returned what one that reads alike gives
 pub gives_alike : {A : Type 0} (result : Result A Stop) (old new : List Lexeme) (read other : List Lexeme → Read A)

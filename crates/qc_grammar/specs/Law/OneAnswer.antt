@@ -1,7 +1,8 @@
 -- A reader of a readable grammar has one answer to each text, and reading gives it.
 use Rattle.std.specs.Prelude.{ℕ, zero, suc, ◌≡◌, ◌+◌, ◌-◌, ◌≤◌, ◌<◌, true, false, ◌||◌, List, [], ◌∷◌, ◌++◌, length, take, Option, Some, None, Result, Ok, Err}
 use Rattle.std.proofs.Common.{refl, ap, sym, ◌∙◌, inl, inr, subst, append_assoc, arith}
-use Rattle.std.proofs.lemmas.Bool.{cases_lt}
+use Rattle.std.proofs.Math.Seq.{take-append_seam}
+use Rattle.std.proofs.lemmas.Bool.{and_parts, both_ways, cases_lt, or_left, or_right}
 use Rattle.std.proofs.lemmas.List.{take-take, length-take-le, length-append, append-nil}
 use Rattle.std.proofs.lemmas.List.Folds.{list_any-append}
 use Rattle.qc_text.specs.declared.token.Kind.TheVariants as kind
@@ -20,11 +21,11 @@ use Rattle.qc_grammar.specs.Grammar.{text}
 use Rattle.qc_grammar.specs.Brackets.{is_shallow, first_too_deep}
 use Rattle.qc_grammar.specs.ReaderResult.{Gives}
 use Rattle.qc_grammar.specs.Answer.{IsSyntax, IsAnswer, Answers, EndsText, cut, at_the_end, settled}
-use Rattle.qc_grammar.specs.Law.Tests.{both_true, contrary, class_alike, or_first, or_second, next_class}
+use Rattle.qc_grammar.specs.Law.Tests.{class_alike, next_class}
 use Rattle.qc_grammar.specs.Law.Exactness.{Found, Stopped, Exact}
 use Rattle.qc_grammar.specs.Law.Fuel.{exact}
 use Rattle.qc_grammar.specs.Law.Complete.{complete_whole}
-use Rattle.qc_grammar.specs.Law.Fronts.{take_front, take_one_more, begins_take, phrase_begins, shallow_take, shallow_all, none_too_deep, some_too_deep, FirstTooDeep, has_end, no_end_inside}
+use Rattle.qc_grammar.specs.Law.Fronts.{take_one_more, begins_take, phrase_begins, shallow_take, shallow_all, none_too_deep, some_too_deep, FirstTooDeep, has_end, no_end_inside}
 
 -- the tokens that a reader is given are a front of the text, and before their last no bracket is too deep
 pub record IsCut (tokens given : List Lexeme) : Type 0 where
@@ -53,7 +54,7 @@ cut_facts tokens (Some k) e =
 module _ {I : Type 0} {E : I → Type 0} (s : grammar.Syntax I E) {A : Type 0} (g : Grammar I E A)
     (readable : IsReadable s g) where
   text_clean : is_clean s (text g) ≡ true
-  text_clean = (both_true readable.start).0
+  text_clean = (and_parts _ _ readable.start).0
 
   -- two answers to a text are one
   at_most_one : (tokens : List Lexeme) (answer other : Result A ReadError) → IsAnswer s g tokens answer
@@ -68,7 +69,7 @@ module _ {I : Type 0} {E : I → Type 0} (s : grammar.Syntax I E) {A : Type 0} (
       let both : x ≡ y = cc in
       ap (λ (z : A × List Lexeme). Ok z.0) both
   at_most_one tokens (Ok a) (Err (Syntax n)) p q = absurd (q.none (phrase_begins s (text g) tokens a p.phrase (suc n)))
-  at_most_one tokens (Ok a) (Err (TooDeep n)) p q = absurd (contrary (shallow_all 0 tokens (suc n) p.shallow) q.deep)
+  at_most_one tokens (Ok a) (Err (TooDeep n)) p q = absurd (both_ways _ q.deep (shallow_all 0 tokens (suc n) p.shallow))
   at_most_one tokens (Ok a) (Err NoMemory) p q = absurd q
   at_most_one tokens (Err (Syntax m)) (Ok b) p q = absurd (p.none (phrase_begins s (text g) tokens b q.phrase (suc m)))
   at_most_one tokens (Err (Syntax m)) (Err (Syntax n)) p q = elim (cases_lt m n) [
@@ -79,19 +80,19 @@ module _ {I : Type 0} {E : I → Type 0} (s : grammar.Syntax I E) {A : Type 0} (
     ]
   ]
   at_most_one tokens (Err (Syntax m)) (Err (TooDeep n)) p q = elim (cases_lt n m) [
-    | inl lt ↦ absurd (contrary (shallow_take 0 tokens (suc n) m lt p.shallow) q.deep)
+    | inl lt ↦ absurd (both_ways _ q.deep (shallow_take 0 tokens (suc n) m lt p.shallow))
     | inr le ↦ absurd (p.none (begins_take s (text g) tokens (suc m) (suc n) (omega arith) q.with_it))
   ]
   at_most_one tokens (Err (Syntax m)) (Err NoMemory) p q = absurd q
-  at_most_one tokens (Err (TooDeep m)) (Ok b) p q = absurd (contrary (shallow_all 0 tokens (suc m) q.shallow) p.deep)
+  at_most_one tokens (Err (TooDeep m)) (Ok b) p q = absurd (both_ways _ p.deep (shallow_all 0 tokens (suc m) q.shallow))
   at_most_one tokens (Err (TooDeep m)) (Err (Syntax n)) p q = elim (cases_lt m n) [
-    | inl lt ↦ absurd (contrary (shallow_take 0 tokens (suc m) n lt q.shallow) p.deep)
+    | inl lt ↦ absurd (both_ways _ p.deep (shallow_take 0 tokens (suc m) n lt q.shallow))
     | inr le ↦ absurd (q.none (begins_take s (text g) tokens (suc n) (suc m) (omega arith) p.with_it))
   ]
   at_most_one tokens (Err (TooDeep m)) (Err (TooDeep n)) p q = elim (cases_lt m n) [
-    | inl lt ↦ absurd (contrary (shallow_take 0 tokens (suc m) n lt q.shallow) p.deep)
+    | inl lt ↦ absurd (both_ways _ p.deep (shallow_take 0 tokens (suc m) n lt q.shallow))
     | inr le ↦ elim (cases_lt n m) [
-      | inl lt ↦ absurd (contrary (shallow_take 0 tokens (suc n) m lt p.shallow) q.deep)
+      | inl lt ↦ absurd (both_ways _ q.deep (shallow_take 0 tokens (suc n) m lt p.shallow))
       | inr ge ↦ ap (λ k. Err (TooDeep k)) (omega arith)
     ]
   ]
@@ -135,7 +136,7 @@ module _ {I : Type 0} {E : I → Type 0} (s : grammar.Syntax I E) {A : Type 0} (
       subst (IsSyntax s g tokens) place
       (record {
         within = omega (arith, c.within);
-        before = subst (Begins s (text g)) (sym (ap (take (length front)) split ∙ take_front front (t ∷ rest))
+        before = subst (Begins s (text g)) (sym (ap (take (length front)) split ∙ take-append_seam front (t ∷ rest))
             ∙ c.same (length front) (omega arith)) before;
         none = λ b. none
             (subst (Begins s (text g)) (sym (c.same (suc (length front)) lt) ∙ ap (take (suc (length front))) split
@@ -161,7 +162,7 @@ module _ {I : Type 0} {E : I → Type 0} (s : grammar.Syntax I E) {A : Type 0} (
       ended : has_end tokens ≡ true
       ended =
           ap has_end ends.split ∙ list_any-append (λ t. same_class t.class (Any kind.End)) ends.front (ends.last ∷ [])
-          ∙ or_second (has_end ends.front) (ap (λ d. same_class d (Any kind.End) || false) ends.end
+          ∙ or_right (has_end ends.front) _ (ap (λ d. same_class d (Any kind.End) || false) ends.end
           ∙ ap (λ b. b || false) (class_alike (Any kind.End)))
 
       go : (more : List Lexeme) → IsPhrase s (text g) (tokens ++ more) b.tree
@@ -172,12 +173,12 @@ module _ {I : Type 0} {E : I → Type 0} (s : grammar.Syntax I E) {A : Type 0} (
           let cut_off : (zs : List Lexeme) × (both.0 ≡ tokens ++ zs) =
           inner both.0 both.4.0 tokens m ms (both.2 ∙ ap (λ ts. both.0 ++ ts) both.4.1.0) in
           let none : has_end both.0 ≡ false =
-          no_end_inside s readable.rules g (both_true readable.start).1 both.0 p.is.0.0
+          no_end_inside s readable.rules g (and_parts _ _ readable.start).1 both.0 p.is.0.0
           (record { depth = p.depth; is = both.3 }) in
           let some : has_end both.0 ≡ true =
           ap has_end cut_off.1 ∙ list_any-append (λ t. same_class t.class (Any kind.End)) tokens cut_off.0
-          ∙ or_first (has_end cut_off.0) ended in
-          absurd (contrary some none)
+          ∙ or_left _ (has_end cut_off.0) ended in
+          absurd (both_ways _ none some)
 
   -- what reading gives is an answer
   is_answer : (tokens : List Lexeme) → EndsText tokens → (deep : Option ℕ) → first_too_deep 0 tokens ≡ deep

@@ -1,12 +1,13 @@
 -- Facts of the phrases of a clean grammar: where they begin, and that there are some.
 use Rattle.std.specs.Prelude.{ℕ, zero, suc, ◌≡◌, ◌≤◌, max, Bool, true, false, not, cond, ◌&&◌, List, [], ◌∷◌, ◌++◌}
 use Rattle.std.proofs.Common.{refl, ap, sym, ◌∙◌, inl, inr, subst, arith}
+use Rattle.std.proofs.lemmas.Bool.{and_parts, both_ways, cases_Bool, not-true, or_cases, or_left, or_right}
 use Rattle.qc_grammar.specs.Lexeme.{Class, Lexeme, same_class}
 use Rattle.qc_grammar.specs.Grammar.{Grammar, terminal, empty, sequence, choice, action, repetition, nonterminal, Syntax}
 use Rattle.qc_grammar.specs.Language.{Phrases, PhraseBy, Derives, IsPhrase}
 use Rattle.qc_grammar.specs.Reading.{can_be_empty, first_by, rule_first}
 use Rattle.qc_grammar.specs.Law.LL1.{is_in, is_clean, is_guarded, is_endless, follow, has_phrase_by, has_phrase, are_within, IsClean}
-use Rattle.qc_grammar.specs.Law.Tests.{both_true, or_first, or_second, not_true, contrary, tested, either_true, in_first, in_second, class_alike}
+use Rattle.qc_grammar.specs.Law.Tests.{in_first, in_second, class_alike}
 
 -- two lists that make an empty one are empty
 pub both_empty : (xs ys : List Lexeme) → [] ≡ xs ++ ys → (xs ≡ []) × (ys ≡ [])
@@ -66,8 +67,8 @@ module _ {I : Type 0} {E : I → Type 0} where
       empty_phrase R none h tree.1 (subst (λ ts. PhraseBy R h ts tree.1) parts.1 p.4) in
       ap (λ b. cond b (can_be_empty h) false) eg ∙ eh
   empty_phrase R none (choice g h) tree p = elim p [
-    | inl q ↦ or_first (can_be_empty h) (empty_phrase R none g tree q)
-    | inr q ↦ or_second (can_be_empty g) (empty_phrase R none h tree q)
+    | inl q ↦ or_left _ (can_be_empty h) (empty_phrase R none g tree q)
+    | inr q ↦ or_right (can_be_empty g) _ (empty_phrase R none h tree q)
   ]
   empty_phrase R none (action f g) tree p = empty_phrase R none g p.0 p.1
   empty_phrase R none (repetition g) tree p = refl
@@ -82,7 +83,7 @@ module _ {I : Type 0} {E : I → Type 0} where
   phrase_first R begins none head (terminal c) t ts tree p =
       let same : c ≡ t.class = sym p.1
       ∙ ap (λ (x : Lexeme). x.class) (let e : t ∷ ts ≡ tree ∷ [] = p.0 in let f : tree ≡ t = cc in f) in
-      or_first false (ap (λ d. same_class t.class d) same ∙ class_alike t.class)
+      or_left _ false (ap (λ d. same_class t.class d) same ∙ class_alike t.class)
   phrase_first R begins none head (empty x) t ts tree p = absurd (let e : t ∷ ts ≡ [] = p.0 in cc)
   phrase_first R begins none head (sequence {A = X} {B = Y} g h) t ts tree p =
       go (phrase_first R begins none head g) (phrase_first R begins none head h) p.0 p.2 p.3
@@ -117,8 +118,8 @@ module _ {I : Type 0} {E : I → Type 0} where
   first_guarded begins others (terminal c) e = refl
   first_guarded begins others (empty x) e = refl
   first_guarded begins others (sequence g h) e =
-      let parts : (is_guarded g ≡ true) × (cond (can_be_empty g) (is_guarded h) true ≡ true) = both_true e in
-      elim (tested (can_be_empty g)) [
+      let parts : (is_guarded g ≡ true) × (cond (can_be_empty g) (is_guarded h) true ≡ true) = and_parts _ _ e in
+      elim (cases_Bool (can_be_empty g)) [
         | inl f ↦
             let eh : is_guarded h ≡ true = ap (λ b. cond b (is_guarded h) true) (sym f) ∙ parts.1 in
             ap (λ xs. xs ++ cond (can_be_empty g) (first_by begins h) []) (first_guarded begins others g parts.0)
@@ -129,7 +130,7 @@ module _ {I : Type 0} {E : I → Type 0} where
             ∙ sym (ap (λ b. first_by others g ++ cond b (first_by others h) []) f))
       ]
   first_guarded begins others (choice g h) e =
-      let parts : (is_guarded g ≡ true) × (is_guarded h ≡ true) = both_true e in
+      let parts : (is_guarded g ≡ true) × (is_guarded h ≡ true) = and_parts _ _ e in
       ap (λ xs. xs ++ first_by begins h) (first_guarded begins others g parts.0)
       ∙ ap (λ xs. first_by others g ++ xs) (first_guarded begins others h parts.1)
   first_guarded begins others (action f g) e = first_guarded begins others g e
@@ -144,13 +145,13 @@ module _ {I : Type 0} {E : I → Type 0} where
       let t : Lexeme = record { number = 0; class = c; text = [] } in (t ∷ [], t, (refl, refl))
   some_phrase s depth test rules (empty x) e = ([], x, (refl, refl))
   some_phrase s depth test rules (sequence {A = X} {B = Y} g h) e =
-      let parts : (has_phrase_by test g ≡ true) × (has_phrase_by test h ≡ true) = both_true e in
+      let parts : (has_phrase_by test g ≡ true) × (has_phrase_by test h ≡ true) = and_parts _ _ e in
       let a : (tokens : List Lexeme) × (tree : X) × PhraseBy (Derives s depth) g tokens tree =
       some_phrase s depth test rules g parts.0 in
       let b : (tokens : List Lexeme) × (tree : Y) × PhraseBy (Derives s depth) h tokens tree =
       some_phrase s depth test rules h parts.1 in
       (a.0 ++ b.0, (a.1, b.1), (a.0, b.0, refl, a.2, b.2))
-  some_phrase s depth test rules (choice g h) e = elim (either_true (has_phrase_by test g) (has_phrase_by test h) e) [
+  some_phrase s depth test rules (choice g h) e = elim (or_cases (has_phrase_by test g) (has_phrase_by test h) e) [
     | inl f ↦ let a : (tokens : List Lexeme) × (tree : _) × PhraseBy (Derives s depth) g tokens tree =
         some_phrase s depth test rules g f in (a.0, a.1, inl a.2)
     | inr f ↦ let b : (tokens : List Lexeme) × (tree : _) × PhraseBy (Derives s depth) h tokens tree =
@@ -178,7 +179,7 @@ module _ {I : Type 0} {E : I → Type 0} where
       always (terminal c) = refl
       always (empty x) = refl
       always (sequence g h) = ap (λ b. b && has_phrase_by (λ _. true) h) (always g) ∙ always h
-      always (choice g h) = or_first (has_phrase_by (λ _. true) h) (always g)
+      always (choice g h) = or_left _ (has_phrase_by (λ _. true) h) (always g)
       always (action f g) = always g
       always (repetition g) = refl
       always (nonterminal i) = refl
@@ -195,16 +196,16 @@ module _ {I : Type 0} {E : I → Type 0} (s : Syntax I E) (clean : IsClean s) wh
 
   pub rule_facts : (i : I) → RuleFacts i
   rule_facts i =
-      let z : (_ ≡ true) × (is_endless (s.rule i) ≡ true) = both_true (clean.rules i) in
-      let a : (_ ≡ true) × (has_phrase s clean.depth i ≡ true) = both_true z.0 in
-      let b : (_ ≡ true) × (are_within (follow s (s.rule i)) (s.goes_on i) ≡ true) = both_true a.0 in
-      let d : (_ ≡ true) × (is_guarded (s.rule i) ≡ true) = both_true b.0 in
-      let e : (is_clean s (s.rule i) ≡ true) × (not (can_be_empty (s.rule i)) ≡ true) = both_true d.0 in
-      record { is = e.0; token = not_true e.1; guarded = d.1; within = b.1; phrase = a.1; endless = z.1 }
+      let z : (_ ≡ true) × (is_endless (s.rule i) ≡ true) = and_parts _ _ (clean.rules i) in
+      let a : (_ ≡ true) × (has_phrase s clean.depth i ≡ true) = and_parts _ _ z.0 in
+      let b : (_ ≡ true) × (are_within (follow s (s.rule i)) (s.goes_on i) ≡ true) = and_parts _ _ a.0 in
+      let d : (_ ≡ true) × (is_guarded (s.rule i) ≡ true) = and_parts _ _ b.0 in
+      let e : (is_clean s (s.rule i) ≡ true) × (not (can_be_empty (s.rule i)) ≡ true) = and_parts _ _ d.0 in
+      record { is = e.0; token = not-true _ e.1; guarded = d.1; within = b.1; phrase = a.1; endless = z.1 }
 
   pub no_empty : (n : ℕ) (i : I) (tree : E i) → Derives s n i [] tree → ⊥
   no_empty zero i tree p = p
-  no_empty (suc n) i tree p = contrary (empty_phrase (Derives s n) (no_empty n) (s.rule i) tree p) (rule_facts i).token
+  no_empty (suc n) i tree p = both_ways _ (rule_facts i).token (empty_phrase (Derives s n) (no_empty n) (s.rule i) tree p)
 
   pub rule_head : (n : ℕ) (i : I) (t : Lexeme) (ts : List Lexeme) (tree : E i) → Derives s n i (t ∷ ts) tree
       → is_in (rule_first s i) t.class ≡ true

@@ -3,8 +3,9 @@ use Rattle.std.specs.Prelude.{ℕ, suc, ◌≡◌, ◌≢◌, Bool, true, false,
 use Rattle.std.specs.List.{list_any, AllByRecursion, All}
 use Rattle.std.specs.Str.{bytes_eq}
 use Rattle.std.proofs.Common.{refl, ap, sym, ◌∙◌, subst, inl, inr, arith}
-use Rattle.std.proofs.lemmas.List.{map-append}
+use Rattle.std.proofs.lemmas.List.{map-append, same_from_push}
 use Rattle.std.proofs.lemmas.List.Elements.{recursion_from_All}
+use Rattle.std.proofs.lemmas.Bool.{and_parts}
 use Rattle.qc_text.specs.declared.token.Kind.{Kind}
 use Rattle.qc_text.specs.declared.token.Kind.TheVariants.{Name, Prim, Number, Str, Punct, End}
 use Rattle.qc_text.specs.declared.token.Token.{Token}
@@ -23,20 +24,7 @@ use Rattle.qc_grammar.specs.Answer.{IsTree}
 use Rattle.qc_grammar.specs.TextAnswer.{OfTokens}
 use Rattle.qc_grammar.specs.Law.Ended.{end_class}
 use Rattle.qc_grammar.specs.Law.Fronts.{shallow_front}
-use Rattle.qc_grammar.specs.Law.Tests.{both_true}
 use Rattle.qc_grammar.specs.Law.SameUpToTokens.{alike_append, alike_texts}
-
--- the same front, where one thing is behind it
-pub same_front : {X : Type 0} (xs ys : List X) (x y : X) → xs ++ x ∷ [] ≡ ys ++ y ∷ [] → xs ≡ ys
-same_front [] [] x y e = refl
-same_front [] (z ∷ []) x y e = cc e
-same_front [] (z ∷ w ∷ ys) x y e = cc e
-same_front (z ∷ []) [] x y e = cc e
-same_front (z ∷ w ∷ xs) [] x y e = cc e
-same_front (z ∷ xs) (w ∷ ys) x y e =
-    let first : z ≡ w = cc e in
-    let rest : xs ≡ ys = same_front xs ys x y (cc e) in
-    cc (first, rest)
 
 -- texts of one class each have the same brackets
 alike_shallow : (alike : Lexeme → Lexeme → Type 0) (one_class : (t u : Lexeme) → alike t u
@@ -56,7 +44,7 @@ shallow_end n [] last end few all =
     ap (λ c. nat_le (open_after n (record { number = last.number; class = c; text = last.text })) most_open && true) end
     ∙ ap (λ b. b && true) few
 shallow_end n (t ∷ ts) last end few all =
-    let both : (nat_le (open_after n t) most_open ≡ true) × (is_shallow (open_after n t) ts ≡ true) = both_true all in
+    let both : (nat_le (open_after n t) most_open ≡ true) × (is_shallow (open_after n t) ts ≡ true) = and_parts _ _ all in
     ap (λ b. b && is_shallow (open_after n t) (ts ++ last ∷ [])) both.0
     ∙ shallow_end (open_after n t) ts last end both.0 both.1
 
@@ -349,7 +337,7 @@ module _ {I : Type 0} {E : I → Type 0} (s : grammar.Syntax I E) {A : Type 0} (
       let front : Fronted (lexemes vocabulary bytes o.tokens) tree =
       fronted (lexemes vocabulary bytes o.tokens) tree o.is.phrase in
       let same : front.front ≡ from_words vocabulary 0 [] words =
-      same_front front.front (from_words vocabulary 0 [] words) front.last end.0 (sym front.split ∙ lexed) in
+      (same_from_push front.front (from_words vocabulary 0 [] words) front.last end.0 (sym front.split ∙ lexed)).0 in
       record {
         words = words;
         tokens = from_words vocabulary 0 [] words;

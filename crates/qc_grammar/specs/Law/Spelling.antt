@@ -28,7 +28,7 @@ module _ (as_text : Kind → List ℕ → List ℕ) {I : Type 0} {E : I → Type
   EachSpells (nonterminal i) P = (tree : E i) → P (W i tree) tree
 
   -- what holds of all that has a property holds of what each phrase spells, if that has it
-  each_of : {A : Type 0} (g : Grammar I E A) (P Q : List (List ℕ) → A → Type 0) → ((words : List (List ℕ)) (x : A)
+  pub each_of : {A : Type 0} (g : Grammar I E A) (P Q : List (List ℕ) → A → Type 0) → ((words : List (List ℕ)) (x : A)
       → P words x → Q words x) → EachSpells g P → EachSpells g Q
   each_of (terminal (Word text)) P Q f e = λ token. f (text ∷ []) token (e token)
   each_of (terminal (Value number)) P Q f e = λ token. f (decimal number ∷ []) token (e token)

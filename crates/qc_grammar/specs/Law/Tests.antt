@@ -1,50 +1,16 @@
 -- What the tests of classes tell.
-use Rattle.std.specs.Prelude.{ℕ, zero, suc, ◌≡◌, ◌⊎◌, Bool, true, false, not, ◌&&◌, ◌||◌, List, [], ◌∷◌, ◌++◌, Option, Some, None}
+use Rattle.std.specs.Prelude.{ℕ, zero, suc, ◌≡◌, Bool, true, false, not, List, [], ◌∷◌, ◌++◌, Option, Some, None}
 use Rattle.std.specs.List.{list_all}
 use Rattle.std.proofs.Common.{refl, ap, sym, ◌∙◌, inl, inr}
 use Rattle.std.specs.Cmp.Lexicographic.{same_text}
 use Rattle.std.proofs.lemmas.Cmp.{nat_list_eq_equiv}
-use Rattle.std.proofs.lemmas.Bool.{eqb-true, eq-eqb}
+use Rattle.std.proofs.lemmas.Bool.{and_parts, both_ways, cases_Bool, eq-eqb, eqb-true, not-true, or_cases, or_left, or_parts, or_right}
 use Rattle.std.proofs.lemmas.List.Folds.{list_any-append}
 use Rattle.qc_text.specs.declared.token.Kind.{Kind}
 use Rattle.qc_text.specs.declared.token.Kind.TheVariants.{Name, Prim, Number, Str, Punct, End}
 use Rattle.qc_grammar.specs.Lexeme.{Class, Word, Value, Any, Lexeme, same_class, kind_number}
 use Rattle.qc_grammar.specs.Reading.{next_in}
 use Rattle.qc_grammar.specs.Law.LL1.{is_in, are_apart, are_within}
-
-pub both_true : {a b : Bool} → (a && b) ≡ true → (a ≡ true) × (b ≡ true)
-both_true {a = true} {b = true} e = (refl, refl)
-both_true {a = true} {b = false} e = absurd cc
-both_true {a = false} {b = true} e = absurd cc
-both_true {a = false} {b = false} e = absurd cc
-
-pub or_first : {a : Bool} (b : Bool) → a ≡ true → (a || b) ≡ true
-or_first {a = true} b e = refl
-or_first {a = false} b e = absurd cc
-
-pub or_second : (a : Bool) {b : Bool} → b ≡ true → (a || b) ≡ true
-or_second true e = refl
-or_second false e = e
-
-pub either_true : (a b : Bool) → (a || b) ≡ true → (a ≡ true) ⊎ (b ≡ true)
-either_true true b e = inl refl
-either_true false b e = inr e
-
-pub neither : (a b : Bool) → (a || b) ≡ false → (a ≡ false) × (b ≡ false)
-neither true b e = absurd cc
-neither false b e = (refl, e)
-
-pub not_true : {a : Bool} → not a ≡ true → a ≡ false
-not_true {a = true} e = absurd cc
-not_true {a = false} e = refl
-
-pub contrary : {a : Bool} → a ≡ true → a ≡ false → ⊥
-contrary e f = cc
-
--- a test, and how it went
-pub tested : (b : Bool) → (b ≡ true) ⊎ (b ≡ false)
-tested true = inl refl
-tested false = inr refl
 
 kind_at : ℕ → Kind
 kind_at zero = Name
@@ -82,24 +48,24 @@ class_alike (Value n) = eq-eqb n n refl
 class_alike (Any k) = eq-eqb (kind_number k) (kind_number k) refl
 
 pub in_first : (xs ys : List Class) (c : Class) → is_in xs c ≡ true → is_in (xs ++ ys) c ≡ true
-in_first xs ys c e = list_any-append (same_class c) xs ys ∙ or_first (is_in ys c) e
+in_first xs ys c e = list_any-append (same_class c) xs ys ∙ or_left _ (is_in ys c) e
 
 pub in_second : (xs ys : List Class) (c : Class) → is_in ys c ≡ true → is_in (xs ++ ys) c ≡ true
-in_second xs ys c e = list_any-append (same_class c) xs ys ∙ or_second (is_in xs c) e
+in_second xs ys c e = list_any-append (same_class c) xs ys ∙ or_right (is_in xs c) _ e
 
 -- what is in a list meets a test that each of the list meets
 pub each_of : (test : Class → Bool) (xs : List Class) (c : Class) → list_all test xs ≡ true → is_in xs c ≡ true
     → test c ≡ true
 each_of test [] c each inside = absurd cc
 each_of test (x ∷ xs) c each inside =
-    let parts : (test x ≡ true) × (list_all test xs ≡ true) = both_true each in
-    elim (either_true (same_class c x) (is_in xs c) inside) [
+    let parts : (test x ≡ true) × (list_all test xs ≡ true) = and_parts _ _ each in
+    elim (or_cases (same_class c x) (is_in xs c) inside) [
       | inl e ↦ ap test (one_class c x e) ∙ parts.0
       | inr e ↦ each_of test xs c parts.1 e
     ]
 
 pub apart : (xs ys : List Class) (c : Class) → are_apart xs ys ≡ true → is_in xs c ≡ true → is_in ys c ≡ false
-apart xs ys c e inside = not_true (each_of (λ d. not (is_in ys d)) xs c e inside)
+apart xs ys c e inside = not-true _ (each_of (λ d. not (is_in ys d)) xs c e inside)
 
 -- the class of the next token, if a token is left
 abbrev pub next_class : List Lexeme → Option Class
@@ -127,19 +93,19 @@ pub next_first : (xs ys : List Class) (tokens : List Lexeme) → next_in (xs ++ 
     → next_in xs tokens ≡ false
 next_first xs ys [] e = refl
 next_first xs ys (t ∷ ts) e =
-    (neither (is_in xs t.class) (is_in ys t.class) (sym (list_any-append (same_class t.class) xs ys) ∙ e)).0
+    (or_parts (is_in xs t.class) (is_in ys t.class) (sym (list_any-append (same_class t.class) xs ys) ∙ e)).0
 
 pub next_second : (xs ys : List Class) (tokens : List Lexeme) → next_in (xs ++ ys) tokens ≡ false
     → next_in ys tokens ≡ false
 next_second xs ys [] e = refl
 next_second xs ys (t ∷ ts) e =
-    (neither (is_in xs t.class) (is_in ys t.class) (sym (list_any-append (same_class t.class) xs ys) ∙ e)).1
+    (or_parts (is_in xs t.class) (is_in ys t.class) (sym (list_any-append (same_class t.class) xs ys) ∙ e)).1
 
 -- what isn't next of a list isn't next of a list within it
 pub next_within : (xs ys : List Class) (tokens : List Lexeme) → are_within xs ys ≡ true → next_in ys tokens ≡ false
     → next_in xs tokens ≡ false
 next_within xs ys [] e f = refl
-next_within xs ys (t ∷ ts) e f = elim (tested (is_in xs t.class)) [
-  | inl g ↦ absurd (contrary (each_of (is_in ys) xs t.class e g) f)
+next_within xs ys (t ∷ ts) e f = elim (cases_Bool (is_in xs t.class)) [
+  | inl g ↦ absurd (both_ways _ f (each_of (is_in ys) xs t.class e g))
   | inr g ↦ g
 ]

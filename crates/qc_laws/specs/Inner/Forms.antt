@@ -1,12 +1,15 @@
 -- What forms and operators of laws ask, so that programs can make them.
-use Rattle.std.specs.Prelude.{ℕ, ◌-◌, ◌≤◌}
+use Rattle.std.specs.Prelude.{ℕ, ◌-◌, ◌≤◌, Option, None, Some, if◌then◌else◌}
+use Rattle.qc_words.specs.declared.operator.Op.{Op}
 use Rattle.qc_words.specs.Width.{IsWidth}
+use Rattle.qc_terms.specs.Tree.{Tree, Binary}
 use Rattle.qc_equations.specs.declared.form.Left.{Left}
 use Rattle.qc_equations.specs.declared.form.Left.TheVariants.{Constant, OneOperand, WithLiteral, LowBits}
 use Rattle.qc_equations.specs.declared.form.Literal.{Literal}
 use Rattle.qc_equations.specs.declared.form.Literal.TheVariants.{Zero, Ones}
 use Rattle.qc_equations.specs.declared.form.Operator.{Operator}
 use Rattle.qc_equations.specs.declared.form.Operator.TheVariants.{Complement, Negation, ZeroExtension, SignExtension, Widening, LowSlice, HighSlice}
+use Rattle.qc_equations.specs.Matching.{same_op}
 
 -- the operator is the complement or the negation
 abbrev pub IsPlain : Operator → Type 0
@@ -40,3 +43,8 @@ HasWords Widening word size = IsWidth size
 HasWords LowSlice word size = IsWidth size
 HasWords HighSlice word size = IsWidth (word - size)
 HasWords _ word size = Unit {0}
+
+-- the operands of a term with this operator
+abbrev pub operands_of : Op → Tree → Option (Tree × Tree)
+operands_of op (Binary found left right) = if same_op found op then Some (left, right) else None
+operands_of op _ = None

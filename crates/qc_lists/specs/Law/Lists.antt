@@ -1,5 +1,6 @@
 -- Of two lists one after the other: what all their elements have, and where each of them stands.
-use Rattle.std.proofs.Common.{◌≡◌, ℕ, zero, suc, ◌+◌, ◌<◌, List, [], ◌∷◌, ◌++◌, length, refl, ◌∙◌, ap, arith}
+use Rattle.std.proofs.Common.{◌≡◌, ℕ, zero, suc, ◌+◌, ◌<◌, List, [], ◌∷◌, ◌++◌, length, take, drop, refl, sym, ◌∙◌, ap, arith}
+use Rattle.std.proofs.Math.Seq.{take-append_seam, drop-append_seam}
 use Rattle.std.specs.List.{AllByRecursion, slice_get}
 
 -- what holds of each element of both lists holds of each element of the whole
@@ -26,3 +27,10 @@ slice_get-append_right [] ys k = let e : 0 + k ≡ k = omega arith in ap (slice_
 slice_get-append_right (x ∷ xs) ys k =
     let e : suc (length xs) + k ≡ suc (length xs + k) = omega arith in
     ap (slice_get (x ∷ (xs ++ ys))) e ∙ slice_get-append_right xs ys k
+
+-- a whole that is cut at one place in two ways has the same parts
+pub same_parts : {X : Type 0} (xs ys r s : List X) → length xs ≡ length ys → xs ++ r ≡ ys ++ s → (xs ≡ ys) × (r ≡ s)
+same_parts xs ys r s size e = (
+  sym (take-append_seam xs r) ∙ ap (take (length xs)) e ∙ ap (λ n. take n (ys ++ s)) size ∙ take-append_seam ys s,
+  sym (drop-append_seam xs r) ∙ ap (drop (length xs)) e ∙ ap (λ n. drop n (ys ++ s)) size ∙ drop-append_seam ys s,
+)

@@ -1,7 +1,7 @@
 -- What is reported of several lists of faults, one after the other.
-use Rattle.std.specs.Prelude.{ℕ, ◌+◌, ◌≡◌, ◌<◌, ◌≤◌, List, [], ◌∷◌, ◌++◌, length, drop, Option, None, Some}
+use Rattle.std.specs.Prelude.{ℕ, ◌+◌, ◌≡◌, ◌<◌, List, [], ◌∷◌, ◌++◌, length, drop, Option, None, Some}
 use Rattle.std.proofs.Common.{refl, ap, sym, ◌∙◌, arith, get_or}
-use Rattle.std.proofs.lemmas.List.{at_drop_more, at_drop_all}
+use Rattle.std.proofs.lemmas.List.{at_drop_more}
 use Rattle.std.proofs.lemmas.Grind.{common_steps}
 use Rattle.qc_names.specs.Reported as faults
 
@@ -44,13 +44,6 @@ module _ {F : Type 0} (token_of rank_of : F → ℕ) where
       ∙ ap (both found) (ap (λ n. both n (reported rest)) by ∙ sym (reported-append (H x) rest)
       ∙ sym (ap reported here))
       ∙ before
-
-  -- at the end of the loop
-  pub reported_all : {A : Type 0} (G : List A → List F) → G [] ≡ []
-      → (xs : List A) (i : ℕ) (found whole : Option F) → length xs ≤ i
-      → both found (reported (G (drop i xs))) ≡ whole → found ≡ whole
-  reported_all G none xs i found whole past before =
-      sym (both-none found) ∙ ap (λ fs. both found (reported fs)) (sym (at_drop_all G xs i past ∙ none)) ∙ before
 
   -- what is reported of two lists
   pub reported_two : (a b : List F) (o p : Option F) → o ≡ reported a → p ≡ reported b

@@ -1,11 +1,11 @@
 -- Names that are seen one after the other: which were seen, and what is reported of them.
-use Rattle.std.specs.Prelude.{ℕ, ◌+◌, ◌≡◌, ◌<◌, List, [], ◌∷◌, ◌++◌, length, drop, map}
+use Rattle.std.specs.Prelude.{ℕ, ◌+◌, ◌≡◌, ◌<◌, List, [], ◌∷◌, ◌++◌, length, drop}
 use Rattle.std.specs.List.{flat_map}
 use Rattle.std.proofs.Common.{refl, ap, sym, ◌∙◌, append_assoc, subst, get_or}
 use Rattle.std.proofs.lemmas.List.{append-nil, at_drop_more}
 use Rattle.qc_grammar.specs.declared.cursor.Ident.{Ident}
 use Rattle.qc_names.specs.declared.seen.Seen.{Seen}
-use Rattle.qc_names.specs.Tables.{is_among, HasNames, names_in}
+use Rattle.qc_names.specs.Tables.{is_among, HasNames}
 use Rattle.qc_names.specs.Reported.{reported, reported_of_both, twice_if}
 use Rattle.qc_names.specs.Seen as names
 use Rattle.qc_names.specs.Seen.{second_names, none_seen, texts_of}

@@ -2,7 +2,7 @@
 use Rattle.std.specs.Prelude.{ℕ, suc, ◌≡◌, ◌+◌, ◌<◌, Bool, true, false, cond, ◌||◌, nat_eq, List, [], ◌∷◌, ◌++◌, length, map, take, slice_get, Option, None, Some, is_some, if◌then◌else◌}
 use Rattle.std.specs.List.{list_any}
 use Rattle.std.specs.Map.{lookup}
-use Rattle.std.specs.Option.{option_map, option_or}
+use Rattle.std.specs.Option.{option_or}
 use Rattle.std.specs.Str.{bytes_eq}
 use Rattle.std.specs.Cmp.Lexicographic.{pointwise}
 use Rattle.std.specs.declared.vec.Vec.{Vec}
@@ -181,12 +181,6 @@ number-entered es name number other = by (number_at es name) refl
             there ∙ ap (λ o. option_or o (Some number)) (sym there)
         inner false other_name = right (number_at es other)
 
-pub number-entered_or : (es : List (List ℕ × ℕ)) (name : List ℕ) (number : ℕ) (other : List ℕ) →
-    number_at (entered es name number) other
-    ≡ option_or (number_at es other) (cond (bytes_eq other name) (Some number) None)
-number-entered_or es name number other =
-    number-entered es name number other
-
 pub entered-any : (es : List (List ℕ × ℕ)) (name : List ℕ) (number : ℕ) (other : List ℕ) →
     is_some (number_at (entered es name number) other) ≡ (bytes_eq name other || is_some (number_at es other))
 entered-any es name number other =
@@ -332,16 +326,3 @@ table-gives pairs values es name n is found =
     (table_has pairs values es name is) in
     let same : n ≡ h.0 = omega (arith, h.1) in
     ap (slice_get values) same ∙ ap (λ vs. slice_get vs h.0) is.values_are ∙ h.2
-
--- what a name stands for among values that are made of others
-pub named-map : {A B : Type 0} (f : A → B) (pairs : List (List ℕ × A)) (name : List ℕ) →
-    named (map (λ (p : List ℕ × A). (p.0, f p.1)) pairs) name ≡ option_map f (named pairs name)
-named-map f [] name = refl
-named-map {A} {B} f (p ∷ pairs) name = by (bytes_eq name p.0) (named-map f pairs name)
-  where
-    by : (b : Bool) →
-        named (map (λ (p : List ℕ × A). (p.0, f p.1)) pairs) name ≡ option_map f (named pairs name) →
-        cond b (Some (f p.1)) (named (map (λ (p : List ℕ × A). (p.0, f p.1)) pairs) name)
-        ≡ option_map f (cond b (Some p.1) (named pairs name))
-    by true rest = refl
-    by false rest = rest

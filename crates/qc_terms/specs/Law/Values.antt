@@ -1,10 +1,10 @@
 -- The value of a typed term is a word of the term's width.
-use Rattle.std.proofs.Common.{◌≡◌, ◌∙◌, ℕ, ◌+◌, ◌-◌, ◌*◌, ◌/◌, ◌^◌, ◌<◌, ◌≤◌, List, [], ◌∷◌, take, drop, length, map, nat_le, IsTrue, Option, None, Some, IfSome, All, option_and_then, inl, inr, suc, refl, reverse, sym, subst, arith}
+use Rattle.std.proofs.Common.{◌≡◌, ◌∙◌, ℕ, ◌+◌, ◌-◌, ◌*◌, ◌/◌, ◌^◌, ◌<◌, ◌≤◌, List, [], ◌∷◌, take, drop, length, map, nat_le, Option, None, Some, IfSome, All, option_and_then, inl, inr, suc, refl, reverse, sym, subst, arith}
 use Rattle.std.specs.Prelude.{slice_index}
 use Rattle.std.specs.Option.{option_map}
 use Rattle.std.proofs.Math.Nat.{pow-suc}
-use Rattle.std.proofs.lemmas.Bool.{cases_Bool, or_left, or_right}
-use Rattle.std.proofs.lemmas.List.{get_or-map, get_or-reverse, length-drop, length-reverse, length-take-le}
+use Rattle.std.proofs.lemmas.Bool.{cases_Bool, cases_lt}
+use Rattle.std.proofs.lemmas.List.{get_or-map, get_or-reverse, get_or_past, length-drop, length-reverse, length-take-le}
 use Rattle.std.proofs.lemmas.List.Elements.{All-drop, All-from_get_or, All-head, All-tail, All-take}
 use Rattle.std.proofs.lemmas.Nat.{pow_pos}
 use Rattle.qc_words.specs.Law.Results.{result_of-lt}
@@ -17,7 +17,7 @@ use Rattle.qc_terms.specs.declared.term.Place.TheVariants.{Cell, Operand}
 use Rattle.qc_terms.specs.Cells.{HasCell, cell_of, row_of}
 use Rattle.qc_terms.specs.Memory.{in_order, load_of, number_of}
 use Rattle.qc_terms.specs.State.{IsState, context_of, is_zero_cell}
-use Rattle.qc_terms.specs.Tree.{AddressAfter, Binary, Immediate, Load, NextInput, Number, Register, Tree, Unary, has_input, width_of}
+use Rattle.qc_terms.specs.Tree.{AddressAfter, Binary, Immediate, Load, NextInput, Number, Register, Tree, Unary, width_of}
 use Rattle.qc_terms.specs.Typing.{IsAccessWidth, IsRegister, IsTyped, OperandsFit, PlaceFits}
 use Rattle.qc_terms.specs.Value.{index_of, next_input_of, read_of, space_of, value_of}
 
@@ -101,36 +101,43 @@ mapped_part : {X Y : Type 0} (f : X → Y) (r : Option X) (P : X → Type 0) (Q 
 mapped_part f None P Q part step = tt
 mapped_part f (Some x) P Q part step = step x part
 
+-- the next word of the input, which is 0 where it has been read whole
+next_is_word : (s : State) → IsState s → next_input_of s < 2 ^ s.facts.word
+next_is_word s state = elim (cases_lt s.taken (length s.input)) [
+  | inl inside ↦ state.input s.taken 0 inside
+  | inr over ↦ subst (λ n. n < 2 ^ s.facts.word) (sym (get_or_past s.input s.taken 0 over)) (pow_pos s.facts.word)
+]
+
 -- The value of a typed term, where it has one, is a word of the term's width: in a state that keeps its rule, with operands
--- that fit and a word after the instruction, and where a word of the input is left if the term reads one.
+-- that fit and a word after the instruction.
 pub value_of-lt : (s : State) (operands : List ℕ) (after : ℕ) → IsState s → after < 2 ^ s.facts.word → (t : Tree) →
-    IsTyped (context_of s) t → OperandsFit (context_of s) operands t → (IsTrue (has_input t) → s.taken < length s.input) →
+    IsTyped (context_of s) t → OperandsFit (context_of s) operands t →
     IfSome (value_of t operands after s) (λ v. v < 2 ^ width_of t)
-value_of-lt s operands after state small (Number value width) typed fits left = typed
-value_of-lt s operands after state small (Unary op arg) typed fits left =
+value_of-lt s operands after state small (Number value width) typed fits = typed
+value_of-lt s operands after state small (Unary op arg) typed fits =
     mapped_part (λ a. result_of op (width_of arg) a 0) (value_of arg operands after s) (λ a. a < 2 ^ width_of arg)
     (λ v. v < 2 ^ width_of (Unary op arg))
-    (value_of-lt s operands after state small arg typed.2 fits left)
+    (value_of-lt s operands after state small arg typed.2 fits)
     (λ a word. result_of-lt op (width_of arg) a 0 typed.1 word (pow_pos (width_of arg)))
-value_of-lt s operands after state small (Binary op l r) typed fits left =
+value_of-lt s operands after state small (Binary op l r) typed fits =
     let w = width_of l in
     of_part (λ a. option_map (λ b. result_of op w a b) (value_of r operands after s)) (value_of l operands after s)
     (λ a. a < 2 ^ w) (λ v. v < 2 ^ width_of (Binary op l r))
-    (value_of-lt s operands after state small l typed.3 fits.0 (λ reads. left (or_left (has_input l) (has_input r) reads)))
+    (value_of-lt s operands after state small l typed.3 fits.0)
     (λ a first. mapped_part (λ b. result_of op w a b) (value_of r operands after s) (λ b. b < 2 ^ width_of r)
     (λ v. v < 2 ^ width_of (Binary op l r))
-    (value_of-lt s operands after state small r typed.4 fits.1 (λ reads. left (or_right (has_input l) (has_input r) reads)))
+    (value_of-lt s operands after state small r typed.4 fits.1)
     (λ b second. result_of-lt op w a b typed.1 first (subst (λ n. b < 2 ^ n) (sym typed.2) second)))
-value_of-lt s operands after state small (Register place width) typed fits left =
+value_of-lt s operands after state small (Register place width) typed fits =
     let cell = register_cell s operands place width state typed fits in
     read_is_word s (space_of place) (index_of place operands) width state cell.0 cell.1
-value_of-lt s operands after state small (Immediate operand width) typed fits left = fits.1
-value_of-lt s operands after state small (Load width address) typed fits left =
+value_of-lt s operands after state small (Immediate operand width) typed fits = fits.1
+value_of-lt s operands after state small (Load width address) typed fits =
     of_part (load_of s.facts.order s.memory (width / 8)) (value_of address operands after s) (λ a. a < 2 ^ width_of address)
     (λ v. v < 2 ^ width)
-    (value_of-lt s operands after state small address typed.1 fits left)
+    (value_of-lt s operands after state small address typed.1 fits)
     (λ a word. subst (λ n. IfSome (load_of s.facts.order s.memory (width / 8) a) (λ v. v < n)) (access_power width typed.0.width)
     (loads_are_words s.facts.order s.memory (width / 8) a state.memory))
-value_of-lt s operands after state small (NextInput width) typed fits left =
-    subst (λ w. next_input_of s < 2 ^ w) (sym typed) (state.input s.taken 0 (left refl))
-value_of-lt s operands after state small (AddressAfter width) typed fits left = subst (λ w. after < 2 ^ w) (sym typed) small
+value_of-lt s operands after state small (NextInput width) typed fits =
+    subst (λ w. next_input_of s < 2 ^ w) (sym typed) (next_is_word s state)
+value_of-lt s operands after state small (AddressAfter width) typed fits = subst (λ w. after < 2 ^ w) (sym typed) small

@@ -12,16 +12,17 @@ use Rattle.qc_descr.specs.Valid.{nodes_of_rtl}
 use Rattle.qc_widths.specs.declared.acts.Acts.{Acts}
 use Rattle.qc_widths.specs.declared.acts.Acts.TheVariants.{Huge, Known}
 use Rattle.qc_widths.specs.declared.context.Context.{Context}
-use Rattle.qc_widths.specs.declared.faults.WidthFault.{WidthFault}
+use Rattle.qc_facts.specs.declared.faults.WidthFault.{WidthFault}
 use Rattle.qc_widths.specs.declared.items.Counts.{Counts}
 use Rattle.qc_widths.specs.declared.progress.Progress.{Progress}
-use Rattle.qc_widths.specs.Faults.{reported_of_both, reported}
-use Rattle.qc_widths.specs.Scopes.{Names, Signature, Act}
-use Rattle.qc_widths.specs.Effects.{effect_of, clashes_of_act}
-use Rattle.qc_widths.specs.Declarations.{facts_in, locals_of_params, locals_of_operands, names_for, function_name, instruction_name, space_name, signatures_after, signatures_in, meanings_in}
-use Rattle.qc_widths.specs.Inner.FunctionTables.{IsTableOf}
+use Rattle.qc_facts.specs.Faults.{reported_of_both, reported}
+use Rattle.qc_resolve.specs.Scopes.{Names, Signature, Act}
+use Rattle.qc_resolve.specs.Effects.{effect_of, clashes_of_act}
+use Rattle.qc_facts.specs.Facts.{facts_in}
+use Rattle.qc_resolve.specs.Declarations.{locals_of_params, locals_of_operands, names_for, function_name, instruction_name, space_name, signatures_after, signatures_in, meanings_in}
+use Rattle.qc_resolve.specs.FunctionTables.{IsTableOf}
 use Rattle.qc_widths.specs.Machine.{operation_of_item}
-use Rattle.qc_widths.specs.Inner.KeptSignatures.{summary}
+use Rattle.qc_resolve.specs.KeptSignatures.{summary}
 
 unfoldable pub all_signatures : Context → List Signature
 all_signatures t = signatures_in t.facts.now t.items.now

@@ -3,12 +3,12 @@ use Rattle.std.specs.Prelude.{ℕ, ◌^◌, Bool, true, ◌&&◌, nat_lt, Option
 use Rattle.qc_widths.specs.GivenFacts.{align_given, slot_bits_given, memory_given, code_given, data_given, zero_given, frame_given, link_given}
 use Rattle.qc_lrtl.specs.declared.syntax.Item.{Item}
 use Rattle.qc_lrtl.specs.declared.syntax.Item.TheVariants as fact
-use Rattle.qc_widths.specs.declared.facts.SpaceFacts.{SpaceFacts}
+use Rattle.qc_facts.specs.declared.facts.SpaceFacts.{SpaceFacts}
 use Rattle.qc_widths.specs.declared.given.CellItem.{CellItem}
 use Rattle.qc_widths.specs.declared.given.CellItem.TheVariants.{Zero, Frame, Link}
 use Rattle.qc_widths.specs.declared.given.Size.{Size}
 use Rattle.qc_widths.specs.declared.given.Size.TheVariants.{Align, SlotBits, Memory, Code, Data}
-use Rattle.qc_widths.specs.Scopes.{Facts}
+use Rattle.qc_facts.specs.Facts.{Facts}
 
 -- the size of a kind that an item gives
 abbrev pub size_of_item : Size → Item → Option ℕ

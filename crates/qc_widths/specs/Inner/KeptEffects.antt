@@ -7,9 +7,9 @@ use Rattle.qc_terms.specs.declared.term.Term.{Term}
 use Rattle.qc_descr.specs.Valid.{nodes_of_rtl}
 use Rattle.qc_widths.specs.declared.acts.Acts.{Acts}
 use Rattle.qc_widths.specs.declared.acts.Acts.TheVariants.{Huge, Known}
-use Rattle.qc_widths.specs.Effects.{clashes_of_act, effect_of, joined}
-use Rattle.qc_widths.specs.Faults.{reported}
-use Rattle.qc_widths.specs.Scopes.{Act}
+use Rattle.qc_resolve.specs.Effects.{clashes_of_act, effect_of, joined}
+use Rattle.qc_facts.specs.Faults.{reported}
+use Rattle.qc_resolve.specs.Scopes.{Act}
 
 -- the nodes of all terms of effects
 abbrev pub nodes_in_acts : List Act → ℕ

@@ -1,10 +1,9 @@
 -- What code keeps of values: no more of a term with more than 4,096 nodes than that it is one.
-use Rattle.std.specs.Prelude.{ℕ, ◌≡◌, ◌<◌, ◌≤◌, true, nat_lt, if◌then◌else◌, List, length, map, take}
-use Rattle.std.specs.Prelude.{slice_get, Option, None, Some}
+use Rattle.std.specs.Prelude.{ℕ, ◌≡◌, ◌<◌, ◌≤◌, true, nat_lt, if◌then◌else◌, List, length, map, take, slice_get, Option, None, Some}
 use Rattle.qc_terms.specs.Tree.{tree_of, nodes_of}
 use Rattle.qc_lrtl.specs.declared.syntax.Item.{Item}
 use Rattle.qc_lrtl.specs.declared.syntax.Param.{Param}
-use Rattle.qc_widths.specs.declared.facts.Target.{Target}
+use Rattle.qc_facts.specs.declared.facts.Target.{Target}
 use Rattle.qc_widths.specs.declared.scope.Bound.{Bound}
 use Rattle.qc_widths.specs.declared.scope.Bound.TheVariants.{Argument, Function}
 use Rattle.qc_widths.specs.declared.scope.Callee.{Callee}
@@ -17,13 +16,14 @@ use Rattle.qc_widths.specs.declared.scope.Locals.TheVariants.{Params, Operands}
 use Rattle.qc_widths.specs.declared.scope.Scope.{Scope}
 use Rattle.qc_widths.specs.declared.value.Value.{Value}
 use Rattle.qc_widths.specs.declared.value.Value.TheVariants.{Huge, Known}
-use Rattle.qc_widths.specs.Faults.{reported}
-use Rattle.qc_widths.specs.Values as values
-use Rattle.qc_widths.specs.Scopes as scopes
-use Rattle.qc_widths.specs.Scopes.{Meaning, argument, operand, function, is_plain}
-use Rattle.qc_widths.specs.Declarations.{bound_params, bound_operands, function_items, meanings_in}
-use Rattle.qc_widths.specs.Expressions.{Expression, function_of, target_of}
-use Rattle.qc_widths.specs.Inner.FunctionTables.{IsTableOf}
+use Rattle.qc_facts.specs.Faults.{reported}
+use Rattle.qc_facts.specs.Values as values
+use Rattle.qc_facts.specs.Facts.{Facts as SpecFacts}
+use Rattle.qc_resolve.specs.Scopes as scopes
+use Rattle.qc_resolve.specs.Scopes.{Meaning, argument, operand, function, is_plain}
+use Rattle.qc_resolve.specs.Declarations.{bound_params, bound_operands, function_items, meanings_in}
+use Rattle.qc_resolve.specs.Expressions.{Expression, function_of, target_of}
+use Rattle.qc_resolve.specs.FunctionTables.{IsTableOf}
 
 -- the nodes of a value's term
 abbrev pub nodes_in : values.Value → ℕ
@@ -124,7 +124,7 @@ pub record AreParams (meanings : List Meaning) (params : List Param) (kept : Lis
   pub bound : AreBound meanings (length params) kept bounds
 
 -- parameters, or operands, with what they stand for are these names of the definitions
-abbrev pub AreLocals : scopes.Facts → List Meaning → Locals → List (List ℕ × scopes.Bound) → Type 0
+abbrev pub AreLocals : SpecFacts → List Meaning → Locals → List (List ℕ × scopes.Bound) → Type 0
 AreLocals facts meanings (Params params bounds) locals = AreParams meanings params.now bounds.now locals
 AreLocals facts meanings (Operands operands) locals = locals ≡ bound_operands facts 0 operands.now
 

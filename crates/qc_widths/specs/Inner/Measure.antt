@@ -4,7 +4,7 @@ use Rattle.qc_lrtl.specs.declared.syntax.Expr.{size-Expr}
 use Rattle.qc_lrtl.specs.declared.syntax.Item.{Item}
 use Rattle.qc_lrtl.specs.declared.syntax.Item.TheVariants.{Function}
 use Rattle.qc_widths.specs.declared.scope.Scope.{Scope}
-use Rattle.qc_widths.specs.Declarations.{function_items}
+use Rattle.qc_resolve.specs.Declarations.{function_items}
 
 -- the depth of a function's body
 abbrev pub depth_of : Item → ℕ

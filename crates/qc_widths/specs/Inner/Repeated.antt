@@ -5,14 +5,14 @@ use Rattle.qc_grammar.specs.declared.cursor.Ident.{Ident}
 use Rattle.qc_names.specs.declared.seen.Seen.{Seen}
 use Rattle.qc_names.specs.Seen as seen
 use Rattle.qc_lrtl.specs.declared.syntax.Item.{Item}
-use Rattle.qc_widths.specs.declared.faults.WidthFault.{WidthFault}
-use Rattle.qc_widths.specs.declared.faults.WidthFault.TheVariants.{TwiceNamed}
+use Rattle.qc_facts.specs.declared.faults.WidthFault.{WidthFault}
+use Rattle.qc_facts.specs.declared.faults.WidthFault.TheVariants.{TwiceNamed}
 use Rattle.qc_widths.specs.declared.repeated.Kind.{Kind}
 use Rattle.qc_widths.specs.declared.repeated.Kind.TheVariants.{Space, Function, Instruction}
 use Rattle.qc_widths.specs.declared.repeated.Single.{Single}
-use Rattle.qc_widths.specs.Faults.{token_of, rank_of}
-use Rattle.qc_widths.specs.Scopes.{operators}
-use Rattle.qc_widths.specs.Declarations.{space_name, function_name, instruction_name}
+use Rattle.qc_facts.specs.Faults.{token_of, rank_of}
+use Rattle.qc_facts.specs.Facts.{operators}
+use Rattle.qc_resolve.specs.Declarations.{space_name, function_name, instruction_name}
 
 -- what was seen after more names
 abbrev pub noted_all : Seen WidthFault → List Ident → Seen WidthFault

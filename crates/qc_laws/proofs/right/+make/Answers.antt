@@ -1,22 +1,26 @@
-use Rattle.std.proofs.Common.{sym, subst, ◌+◌, arith}
-use Rattle.qc_equations.specs.Pattern.{Parts}
+use Rattle.std.proofs.Common.{refl, sym, subst, ◌+◌, arith}
+use Rattle.qc_equations.specs.Pattern.{Parts, A, B, C}
+use Rattle.qc_laws.specs.declared.right.Part.TheVariants as part
 use Rattle.qc_laws.specs.Inner.Ids.{parts_at}
 use Rattle.qc_laws.specs.Inner.Spelling.{Spells}
 use Rattle.qc_pool.specs.Law.Kept.{added_keeps, kept_on}
-use Rattle.qc_laws.proofs.Making.{Makes, advances, bin_fits, left_spelled, made_bin, made_first, made_number, made_second, made_third, made_un, number_stands, right_spelled, same_parts, spelled_within, still_there, un_fits, un_spelled, un_words}
+use Rattle.qc_laws.proofs.Making.{Makes, advances, bin_fits, is_first, is_second, is_third, left_spelled, made_bin, made_leaf, made_number, made_un, number_stands, right_spelled, same_parts, spelled_within, still_there, un_fits, un_spelled, un_words}
 use Rattle.qc_laws.proofs.right.+make.Goals as goal
 
 pub returns-in-First-clause-made : goal.returns-in-First-clause-made
 returns-in-First-clause-made t c =
-    made_first c.args.pool.now c.args.ids.now c.args.list.now c.args.at _ c.requires.there c.requires.within c.in-First.is
+    made_leaf c.args.pool.now (parts_at c.args.pool.now c.args.ids.now) c.args.list.now c.args.at _ part.First A c.args.ids.now.a
+    is_first (record { there = c.requires.there.a; term = refl }) c.requires.within c.in-First.is
 
 pub returns-in-Second-clause-made : goal.returns-in-Second-clause-made
 returns-in-Second-clause-made t c =
-    made_second c.args.pool.now c.args.ids.now c.args.list.now c.args.at _ c.requires.there c.requires.within c.in-Second.is
+    made_leaf c.args.pool.now (parts_at c.args.pool.now c.args.ids.now) c.args.list.now c.args.at _ part.Second B c.args.ids.now.b
+    is_second (record { there = c.requires.there.b; term = refl }) c.requires.within c.in-Second.is
 
 pub returns-in-Third-clause-made : goal.returns-in-Third-clause-made
 returns-in-Third-clause-made t c =
-    made_third c.args.pool.now c.args.ids.now c.args.list.now c.args.at _ c.requires.there c.requires.within c.in-Third.is
+    made_leaf c.args.pool.now (parts_at c.args.pool.now c.args.ids.now) c.args.list.now c.args.at _ part.Third C c.args.ids.now.c
+    is_third (record { there = c.requires.there.c; term = refl }) c.requires.within c.in-Third.is
 
 pub literal_bits-width-requires : goal.literal_bits-width-requires
 literal_bits-width-requires t c =

@@ -11,4 +11,4 @@ returns-clause-word c =
     let same : c.map.result ≡ value_of tree c.args.operands.now c.args.after c.args.state.now = search rules in
     subst P (sym same)
     (value_of-lt c.args.state.now c.args.operands.now c.args.after c.requires.state c.requires.after tree c.requires.typed
-    c.requires.operands c.requires.input)
+    c.requires.operands)

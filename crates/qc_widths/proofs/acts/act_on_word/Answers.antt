@@ -1,10 +1,10 @@
 use Rattle.std.proofs.Common.{ap, sym, ◌∙◌, ◌≡◌, ◌<◌, ◌++◌, ◌∷◌, [], arith, None}
 use Rattle.qc_terms.specs.declared.term.Dest.TheVariants as dest
-use Rattle.qc_widths.specs.Effects.{act_on_memory}
+use Rattle.qc_resolve.specs.Effects.{act_on_memory}
 use Rattle.qc_widths.specs.Inner.KeptValues.{nodes_in}
-use Rattle.qc_widths.specs.Faults.{reported}
-use Rattle.qc_widths.specs.Numbers.{access_width}
-use Rattle.qc_widths.specs.Values as values
+use Rattle.qc_facts.specs.Faults.{reported}
+use Rattle.qc_facts.specs.Numbers.{access_width}
+use Rattle.qc_facts.specs.Values as values
 use Rattle.qc_widths.proofs.Gathered.{acts_known, acts_large, part_clash, word_clash, word_nodes}
 use Rattle.qc_widths.proofs.Seen.{huge_of, parts_of}
 use Rattle.qc_widths.proofs.acts.act_on_word.Goals as goal

@@ -1,5 +1,5 @@
 use Rattle.std.proofs.Common.{ap, sym, refl, true, false, ◌∙◌, ◌≡◌, ◌<◌, [], arith, Some, map}
-use Rattle.qc_widths.specs.Effects.{effect_of, guarded}
+use Rattle.qc_resolve.specs.Effects.{effect_of, guarded}
 use Rattle.qc_widths.specs.Inner.KeptValues.{nodes_in}
 use Rattle.qc_widths.specs.Inner.KeptEffects.{nodes_in_acts, nodes_under, under, seen_acts}
 use Rattle.qc_widths.proofs.Gathered.{empty_guarded, huge_guard, reported_guarded, acts_known, acts_large, acts_parts, acts_huge, from_zero, guarded_count, guarded_effects, part_clash}

@@ -1,6 +1,6 @@
 use Rattle.std.proofs.Common.{ap, sym, ◌∙◌, ◌≡◌, ◌<◌, ◌++◌, arith, map}
-use Rattle.qc_widths.specs.Effects.{clashes_of_act, effect_of}
-use Rattle.qc_widths.specs.Faults.{reported, reported_of_both}
+use Rattle.qc_resolve.specs.Effects.{clashes_of_act, effect_of}
+use Rattle.qc_facts.specs.Faults.{reported, reported_of_both}
 use Rattle.qc_widths.specs.Inner.KeptEffects.{nodes_in_acts}
 use Rattle.qc_widths.proofs.Gathered.{acts_known, acts_large, acts_parts, acts_huge, clash_append, nodes_append}
 use Rattle.std.proofs.lemmas.List.{map-append}

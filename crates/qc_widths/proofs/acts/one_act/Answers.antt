@@ -1,5 +1,5 @@
 use Rattle.std.proofs.Common.{ap, sym, ◌∙◌, ◌<◌, ◌++◌, ◌∷◌, [], arith, None}
-use Rattle.qc_widths.specs.Effects.{act_of}
+use Rattle.qc_resolve.specs.Effects.{act_of}
 use Rattle.qc_widths.specs.Inner.KeptValues.{nodes_in}
 use Rattle.qc_widths.proofs.Gathered.{acts_known, acts_large, one_clash, one_nodes, part_clash}
 use Rattle.qc_widths.proofs.Seen.{huge_of, parts_of}

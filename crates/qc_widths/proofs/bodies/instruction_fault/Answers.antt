@@ -1,15 +1,15 @@
 use Rattle.std.proofs.Common.{◌≡◌, ◌++◌, List, map, drop, sym, ap, ◌∙◌}
 use Rattle.std.specs.List.{flat_map}
-use Rattle.qc_widths.specs.declared.faults.WidthFault.{WidthFault}
-use Rattle.qc_widths.specs.declared.faults.WidthFault.TheVariants.{TwiceNamed}
-use Rattle.qc_widths.specs.Faults.{reported, reported_of_both, token_of, rank_of}
-use Rattle.qc_widths.specs.Scopes.{Names}
-use Rattle.qc_widths.specs.Effects.{effect_faults, effect_events}
-use Rattle.qc_widths.specs.Declarations.{names_for, locals_of_operands}
+use Rattle.qc_facts.specs.declared.faults.WidthFault.{WidthFault}
+use Rattle.qc_facts.specs.declared.faults.WidthFault.TheVariants.{TwiceNamed}
+use Rattle.qc_facts.specs.Faults.{reported, reported_of_both, token_of, rank_of}
+use Rattle.qc_resolve.specs.Scopes.{Names}
+use Rattle.qc_resolve.specs.Effects.{effect_faults, effect_events}
+use Rattle.qc_resolve.specs.Declarations.{names_for, locals_of_operands}
 use Rattle.qc_widths.specs.Inner.Elaboration.{all_signatures, names_of_operands}
-use Rattle.qc_widths.specs.Inner.KeptNames.{names_at}
+use Rattle.qc_resolve.specs.KeptNames.{names_at}
 use Rattle.qc_names.specs.Law.Reported.{reported-append}
-use Rattle.qc_widths.proofs.Earlier.{all_of_them}
+use Rattle.qc_resolve.specs.Law.Earlier.{all_of_them}
 use Rattle.qc_widths.proofs.bodies.instruction_fault.Goals as goal
 
 pub returns : goal.returns

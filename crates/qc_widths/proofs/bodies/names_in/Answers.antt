@@ -1,8 +1,8 @@
 use Rattle.std.proofs.Common.{◌≡◌, ◌≤◌, length, take, ap, arith, length-take-le}
-use Rattle.qc_widths.specs.Declarations.{names_for}
+use Rattle.qc_resolve.specs.Declarations.{names_for}
 use Rattle.qc_widths.specs.Inner.Elaboration.{all_signatures}
-use Rattle.qc_widths.specs.Inner.KeptNames.{names_at, locals_in}
-use Rattle.qc_widths.proofs.Earlier.{first_summaries, as_many}
+use Rattle.qc_resolve.specs.KeptNames.{names_at, locals_in}
+use Rattle.qc_resolve.specs.Law.Earlier.{first_summaries, as_many}
 use Rattle.qc_widths.proofs.bodies.names_in.Goals as goal
 
 pub returns-clause-ready : goal.returns-clause-ready

@@ -3,7 +3,7 @@ use Rattle.std.proofs.Common.{refl, ap, sym, subst, ◌∙◌}
 use Rattle.qc_widths.specs.TextFaults.{faults_of}
 use Rattle.qc_descr.specs.Parts.{AreParts}
 use Rattle.qc_lrtl.specs.declared.syntax.RawMachine.{RawMachine}
-use Rattle.qc_widths.specs.Faults.{reported}
+use Rattle.qc_facts.specs.Faults.{reported}
 use Rattle.qc_widths.specs.Inner.Elaboration.{faults_in_items}
 use Rattle.qc_widths.proofs.Keeps.{keeps}
 use Rattle.qc_widths.proofs.elaboration.elaborate.Goals as goal

@@ -5,12 +5,12 @@ use Rattle.qc_widths.specs.TextFaults.{second_declarations, faults_after}
 use Rattle.qc_descr.specs.declared.parts.Operation.{Operation}
 use Rattle.qc_lrtl.specs.declared.syntax.Item.{Item}
 use Rattle.qc_widths.specs.declared.context.Context.{Context}
-use Rattle.qc_widths.specs.declared.faults.WidthFault.{WidthFault}
-use Rattle.qc_widths.specs.Faults.{reported, reported_of_both, reported_of_two, token_of, rank_of}
-use Rattle.qc_widths.specs.Scopes.{Facts}
-use Rattle.qc_widths.specs.Declarations.{facts_in, meanings_in, signatures_in}
+use Rattle.qc_facts.specs.declared.faults.WidthFault.{WidthFault}
+use Rattle.qc_facts.specs.Faults.{reported, reported_of_both, reported_of_two, token_of, rank_of}
+use Rattle.qc_facts.specs.Facts.{Facts, facts_in}
+use Rattle.qc_resolve.specs.Declarations.{meanings_in, signatures_in}
 use Rattle.qc_widths.specs.Machine.{operation_of_item}
-use Rattle.qc_widths.specs.Inner.KeptSignatures.{summary}
+use Rattle.qc_resolve.specs.KeptSignatures.{summary}
 use Rattle.qc_widths.specs.Inner.Elaboration.{OperationsUnless, all_signatures, faults_in_items, operations_in}
 use Rattle.qc_names.specs.Law.Reported.{reported-append}
 use Rattle.qc_widths.proofs.elaboration.fault_with_functions.Goals as goal

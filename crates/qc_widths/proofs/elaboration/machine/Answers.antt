@@ -4,7 +4,8 @@ use Rattle.std.proofs.Common.{refl, ap, ◌∙◌}
 use Rattle.qc_widths.specs.GivenFacts.{given_in}
 use Rattle.qc_lrtl.specs.declared.syntax.Item.{Item}
 use Rattle.qc_widths.specs.declared.machine.Machine.{Machine}
-use Rattle.qc_widths.specs.Declarations.{facts_in, meanings_in}
+use Rattle.qc_facts.specs.Facts.{facts_in}
+use Rattle.qc_resolve.specs.Declarations.{meanings_in}
 use Rattle.qc_widths.specs.Machine.{space_of, operation_of_item}
 use Rattle.qc_widths.specs.Inner.Elaboration.{operations_in}
 use Rattle.qc_widths.specs.Inner.Given.{has_small_cells, is_small_space}

@@ -1,23 +1,22 @@
 use Rattle.std.proofs.Common.{ap, sym, subst, refl, true, false, [], ◌∷◌, ◌++◌, length-append, ◌∙◌, ◌≡◌, ◌+◌, ◌<◌, ℕ, arith, length, map, IfOk, List, None, Some, slice_get, take}
-use Rattle.qc_widths.specs.Inner.KeptValues.{IsValue, seen}
-use Rattle.qc_widths.specs.Expressions.{Expression, expression_of, value_of, expression-literal, expression-input, expression-after, expression-mem, expression-zx, expression-sx, expression-slice, expression-name, expression-call, expression-cell}
+use Rattle.qc_widths.specs.Inner.KeptValues.{IsValue, seen, AreBelow, AreBound, IsBelow, IsBound, IsBoundBelow, IsFoundBelow, IsFunction, IsPlain, apply_of, apply_of_meaning, binding, meanings_of}
+use Rattle.qc_resolve.specs.Expressions.{Expression, expression_of, value_of, expression-literal, expression-input, expression-after, expression-mem, expression-zx, expression-sx, expression-slice, expression-name, expression-call, expression-cell, bare_name, function_of, value_of_cell, use_of, use_of_meaning, bindings}
 use Rattle.qc_lrtl.specs.declared.syntax.Expr.{Expr, size-Expr}
-use Rattle.qc_widths.specs.Declarations.{arity_of, bound_params, function_items, place_of_function, scope_for, meanings_in, meaning_of_function}
+use Rattle.qc_resolve.specs.Declarations.{arity_of, bound_params, function_items, scope_for, meanings_in, meaning_of_function}
 use Rattle.qc_widths.specs.declared.scope.Bound.{Bound}
 use Rattle.qc_widths.specs.declared.scope.Bound.TheVariants.{Argument}
 use Rattle.qc_lrtl.specs.declared.syntax.Param.{Param}
-use Rattle.qc_widths.specs.Inner.KeptValues.{AreBelow, AreBound, IsBelow, IsBound, IsBoundBelow, IsFoundBelow, IsFunction, IsPlain, apply_of, apply_of_meaning, binding, meanings_of}
 use Rattle.qc_widths.specs.declared.scope.Callee.{Callee}
 use Rattle.qc_widths.specs.declared.scope.Callee.TheVariants.{Declared}
 use Rattle.qc_widths.specs.declared.scope.Found.{Found}
 use Rattle.std.specs.Option.{option_map}
 use Rattle.std.proofs.lemmas.List.{length-map}
-use Rattle.qc_widths.specs.Expressions.{bare_name, function_of, value_of_cell, use_of, use_of_meaning, bindings}
 use Rattle.qc_widths.specs.Inner.Measure.{depth_of, depths_of}
-use Rattle.qc_widths.specs.Scopes.{Facts, Meaning, bound_in, is_plain, cell_named, function, operator_named, meaning_in, named, argument}
+use Rattle.qc_facts.specs.Facts.{Facts, cell_named, operator_named}
+use Rattle.qc_resolve.specs.Scopes.{Meaning, bound_in, is_plain, function, meaning_in, argument}
 use Rattle.qc_words.specs.Operators.{is_unary}
 use Rattle.qc_widths.specs.declared.value.Value.TheVariants.{Huge}
-use Rattle.qc_widths.specs.Values as values
+use Rattle.qc_facts.specs.Values as values
 use Rattle.qc_widths.proofs.Declared.{function_means, no_function_at, no_function_means}
 use Rattle.qc_widths.proofs.Falling.{falls_below, falls_inside, shallower}
 use Rattle.qc_widths.proofs.Using.{huge_first, got_some, some_of, use_applied, use_operator, use_function, use_faulty, effects_take_none, other_takes_none, plain_no_effects, plain_count, bindings_length, bindings_at, map_at, bound_push, below_push}

@@ -1,9 +1,9 @@
 use Rattle.std.proofs.Common.{◌≡◌, ◌+◌, ◌*◌, ℕ, List, None, Some, length, map, slice_get}
 use Rattle.qc_widths.specs.declared.scope.Bound.{Bound}
-use Rattle.qc_widths.specs.Declarations.{arity_of}
+use Rattle.qc_resolve.specs.Declarations.{arity_of}
 use Rattle.qc_widths.specs.Inner.KeptValues.{AreBelow, AreBound, IsBoundBelow, IsScope, meanings_of}
-use Rattle.qc_widths.specs.Expressions.{bindings, expression_of, value_of}
-use Rattle.qc_widths.specs.Scopes.{Scope as SpecScope, Meaning, argument}
+use Rattle.qc_resolve.specs.Expressions.{bindings, expression_of, value_of}
+use Rattle.qc_resolve.specs.Scopes.{Scope as SpecScope, Meaning, argument}
 use Rattle.qc_widths.specs.Inner.Measure.{potential}
 use Rattle.qc_widths.proofs.evaluate.+evaluation.Given as goal
 

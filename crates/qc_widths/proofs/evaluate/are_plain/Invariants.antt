@@ -1,7 +1,7 @@
 use Rattle.std.proofs.Common.{◌≡◌, true, false, cond, drop, map}
 use Rattle.std.specs.List.{list_all}
 use Rattle.std.specs.Prelude.{is_some}
-use Rattle.qc_widths.specs.Declarations.{arity_of}
+use Rattle.qc_resolve.specs.Declarations.{arity_of}
 use Rattle.qc_widths.proofs.evaluate.are_plain.Given as goal
 
 -- it hangs on the rest

@@ -1,7 +1,7 @@
-use Rattle.std.proofs.Common.{ap, sym, ◌∙◌, ◌≡◌, true, Some, slice_get, take}
-use Rattle.qc_widths.specs.Declarations.{meaning_of_function, meanings_in}
+use Rattle.std.proofs.Common.{ap, sym, ◌∙◌, ◌≡◌, Some, slice_get, take}
+use Rattle.qc_resolve.specs.Declarations.{meaning_of_function, meanings_in}
 use Rattle.qc_widths.specs.Inner.KeptValues.{meanings_of}
-use Rattle.qc_widths.specs.Scopes.{Meaning, is_plain, meaning_in}
+use Rattle.qc_resolve.specs.Scopes.{Meaning, is_plain, meaning_in}
 use Rattle.qc_widths.proofs.Declared.{function_means, no_function_at}
 use Rattle.qc_widths.proofs.Using.{no_callee, unfit_callee, fit_callee, effects_not_plain}
 use Rattle.qc_widths.proofs.evaluate.callee_of_declared.Goals as goal

@@ -1,8 +1,9 @@
 use Rattle.std.proofs.Common.{ap, sym, subst, ◌∙◌, ◌≡◌, ℕ, None, Some, List}
 use Rattle.qc_widths.specs.Inner.KeptValues.{IsCallee, meanings_of}
-use Rattle.qc_widths.specs.Expressions.{function_of_bound, function_of_operator}
-use Rattle.qc_widths.specs.Scopes.{bound_in, meaning_in, operator_named}
-use Rattle.qc_widths.specs.Values as values
+use Rattle.qc_resolve.specs.Expressions.{function_of_bound, function_of_operator}
+use Rattle.qc_resolve.specs.Scopes.{bound_in, meaning_in}
+use Rattle.qc_facts.specs.Facts.{operator_named}
+use Rattle.qc_facts.specs.Values as values
 use Rattle.qc_widths.proofs.evaluate.callee_of_name.Goals as goal
 
 pub returns-in-Some-clause-below : goal.returns-in-Some-clause-below

@@ -1,6 +1,6 @@
 use Rattle.std.proofs.Common.{ap, sym, ◌∙◌, ◌≡◌, arith, Some, None}
-use Rattle.qc_widths.specs.Declarations.{meanings_in, place_of_function}
-use Rattle.qc_widths.specs.Scopes.{named}
+use Rattle.qc_resolve.specs.Declarations.{place_of_function}
+use Rattle.qc_facts.specs.Facts.{named}
 use Rattle.qc_widths.proofs.Declared.{late_meaning, meaning_at, meaning_name, no_meaning}
 use Rattle.qc_widths.proofs.evaluate.declared.Goals as goal
 

@@ -1,16 +1,17 @@
-use Rattle.std.proofs.Common.{ap, sym, subst, refl, false, [], ◌∷◌, ◌++◌, ◌∙◌, ◌≡◌, ℕ, arith, length, map, take, drop, suc, slice_get, IfOk, List, None, Some}
+use Rattle.std.proofs.Common.{ap, sym, subst, refl, [], ◌∷◌, ◌++◌, ◌∙◌, ◌≡◌, ℕ, arith, length, map, take, drop, suc, slice_get, IfOk, List, None, Some}
 use Rattle.std.proofs.lemmas.List.{length-map}
 use Rattle.qc_lrtl.specs.declared.syntax.Effect.{Effect}
 use Rattle.qc_lrtl.specs.declared.syntax.Param.{Param}
 use Rattle.qc_lrtl.specs.declared.syntax.Simple.{Simple}
 use Rattle.qc_widths.specs.declared.acts.Acts.TheVariants.{Huge}
 use Rattle.qc_widths.specs.declared.scope.Bound.{Bound}
-use Rattle.qc_widths.specs.Declarations.{arity_of, bound_params, meaning_of_effects, meanings_in, place_of_function, scope_for}
-use Rattle.qc_widths.specs.Effects.{acts_of, acts_of_effect, acts_of_meaning, act_on_memory, acts_of_simple}
+use Rattle.qc_resolve.specs.Declarations.{arity_of, bound_params, meaning_of_effects, meanings_in, scope_for}
+use Rattle.qc_resolve.specs.Effects.{acts_of, acts_of_effect, acts_of_meaning, act_on_memory, acts_of_simple}
 use Rattle.qc_widths.specs.Inner.KeptValues.{AreBound}
-use Rattle.qc_widths.specs.Expressions.{bindings, expression_of, value_of}
+use Rattle.qc_resolve.specs.Expressions.{bindings, expression_of, value_of}
 use Rattle.qc_widths.specs.Inner.KeptEffects.{IsActs, seen_acts}
-use Rattle.qc_widths.specs.Scopes.{Act, Facts, Meaning, meaning_in, named}
+use Rattle.qc_resolve.specs.Scopes.{Act, Meaning, meaning_in}
+use Rattle.qc_facts.specs.Facts.{Facts}
 use Rattle.qc_widths.proofs.Declared.{effects_means, no_effects_at}
 use Rattle.qc_widths.proofs.Gathered.{cut_behind, huge_so_far}
 use Rattle.qc_widths.proofs.Using.{got_some, bindings_length, function_takes_none, other_effects, use_effects, use_no_effects}

@@ -1,8 +1,8 @@
 use Rattle.std.proofs.Common.{◌+◌, ◌*◌, take}
-use Rattle.qc_widths.specs.Effects.{acts_of}
+use Rattle.qc_resolve.specs.Effects.{acts_of}
 use Rattle.qc_widths.specs.Inner.KeptValues.{IsScope}
 use Rattle.qc_widths.specs.Inner.KeptEffects.{IsActs}
-use Rattle.qc_widths.specs.Scopes.{Scope as SpecScope}
+use Rattle.qc_resolve.specs.Scopes.{Scope as SpecScope}
 use Rattle.qc_widths.proofs.gather.+gathering.Given as goal
 
 -- uses are of effects below the level

@@ -1,6 +1,6 @@
 use Rattle.std.proofs.Common.{ap, sym, refl, ◌∙◌, ◌≡◌, take}
 use Rattle.std.proofs.Math.Seq.{take-length}
-use Rattle.qc_widths.specs.Declarations.{bound_operands, meanings_in, scope_for}
+use Rattle.qc_resolve.specs.Declarations.{bound_operands, meanings_in, scope_for}
 use Rattle.qc_widths.proofs.Declared.{as_many}
 use Rattle.qc_widths.proofs.gather.acts_of_instruction.Goals as goal
 

@@ -1,5 +1,5 @@
 use Rattle.std.proofs.Common.{◌≡◌, ◌+◌, ◌≤◌, drop, length}
-use Rattle.qc_widths.specs.Declarations.{function_items}
+use Rattle.qc_resolve.specs.Declarations.{function_items}
 use Rattle.qc_widths.proofs.gather.count_functions.Given as goal
 
 -- those so far, and the rest

@@ -1,5 +1,5 @@
 use Rattle.std.proofs.Common.{refl}
-use Rattle.qc_widths.specs.Values as values
+use Rattle.qc_facts.specs.Values as values
 use Rattle.qc_widths.proofs.Building.{at_place}
 use Rattle.qc_widths.proofs.nodes.extension.Goals as goal
 

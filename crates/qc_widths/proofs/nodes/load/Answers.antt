@@ -1,8 +1,8 @@
 use Rattle.std.proofs.Common.{ap, sym, ◌∙◌, ◌≡◌, ◌<◌, arith}
-use Rattle.qc_widths.specs.Numbers.{access_width, access_faults}
+use Rattle.qc_facts.specs.Numbers.{access_width, access_faults}
 use Rattle.qc_widths.specs.Inner.KeptValues.{nodes_in}
-use Rattle.qc_widths.specs.Values as values
-use Rattle.qc_widths.specs.Faults.{reported}
+use Rattle.qc_facts.specs.Values as values
+use Rattle.qc_facts.specs.Faults.{reported}
 use Rattle.qc_widths.proofs.Seen.{seen_large, huge_of, parts_of, huge_mem}
 use Rattle.qc_widths.proofs.Building.{load_is}
 use Rattle.qc_widths.proofs.nodes.load.Goals as goal

@@ -1,7 +1,7 @@
 use Rattle.std.specs.List.{flat_map}
 use Rattle.std.proofs.Common.{refl, arith}
-use Rattle.qc_widths.specs.TextFaults.{kind_faults}
-use Rattle.qc_widths.specs.Faults.{token_of, rank_of}
+use Rattle.qc_facts.specs.Facts.{kind_faults}
+use Rattle.qc_facts.specs.Faults.{token_of, rank_of}
 use Rattle.qc_names.specs.Law.Reported.{reported_more}
 use Rattle.qc_widths.proofs.operations.kinds_fault.Goals as goal
 

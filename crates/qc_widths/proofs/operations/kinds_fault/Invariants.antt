@@ -1,7 +1,7 @@
 use Rattle.std.proofs.Common.{◌≡◌, drop}
 use Rattle.std.specs.List.{flat_map}
-use Rattle.qc_widths.specs.TextFaults.{kind_faults}
-use Rattle.qc_widths.specs.Faults.{reported, reported_of_both}
+use Rattle.qc_facts.specs.Facts.{kind_faults}
+use Rattle.qc_facts.specs.Faults.{reported, reported_of_both}
 use Rattle.qc_widths.proofs.operations.kinds_fault.Given as goal
 
 -- the fault so far, and that of the rest

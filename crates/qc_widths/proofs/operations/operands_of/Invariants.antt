@@ -1,5 +1,5 @@
 use Rattle.std.proofs.Common.{◌≡◌, ◌++◌, drop, map}
-use Rattle.qc_widths.specs.Declarations.{facts_of_operand}
+use Rattle.qc_facts.specs.Facts.{facts_of_operand}
 use Rattle.qc_widths.specs.Machine.{kind_of}
 use Rattle.qc_widths.proofs.operations.operands_of.Given as goal
 

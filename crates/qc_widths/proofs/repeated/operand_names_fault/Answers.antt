@@ -2,8 +2,8 @@ use Rattle.std.specs.Prelude.{◌≡◌, [], map}
 use Rattle.std.proofs.Common.{ap, sym, ◌∙◌, arith, drop}
 use Rattle.std.proofs.lemmas.Grind.{common_steps}
 use Rattle.qc_names.specs.Law.Seen.{seen_fault}
-use Rattle.qc_widths.specs.declared.faults.WidthFault.TheVariants.{TwiceNamed}
-use Rattle.qc_widths.specs.Faults.{token_of, rank_of}
+use Rattle.qc_facts.specs.declared.faults.WidthFault.TheVariants.{TwiceNamed}
+use Rattle.qc_facts.specs.Faults.{token_of, rank_of}
 use Rattle.qc_widths.specs.Inner.Repeated.{noted_all}
 use Rattle.qc_widths.proofs.repeated.operand_names_fault.Goals as goal
 

@@ -4,8 +4,8 @@ use Rattle.std.proofs.Common.{ap, sym, ◌∙◌, arith, drop}
 use Rattle.std.proofs.lemmas.Grind.{common_steps}
 use Rattle.qc_widths.specs.TextFaults.{repeated_after}
 use Rattle.qc_names.specs.Law.Seen.{noted_fault, noted_more}
-use Rattle.qc_widths.specs.declared.faults.WidthFault.TheVariants.{TwiceNamed}
-use Rattle.qc_widths.specs.Faults.{token_of, rank_of, reported, reported_of_both}
+use Rattle.qc_facts.specs.declared.faults.WidthFault.TheVariants.{TwiceNamed}
+use Rattle.qc_facts.specs.Faults.{token_of, rank_of, reported, reported_of_both}
 use Rattle.qc_widths.specs.Inner.Repeated.{known_names, names_of, noted_all}
 use Rattle.qc_widths.proofs.repeated.second_name.Goals as goal
 

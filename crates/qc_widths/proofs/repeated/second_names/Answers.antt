@@ -1,6 +1,6 @@
 use Rattle.std.proofs.Common.{ap, ◌∙◌}
 use Rattle.qc_names.specs.Law.Reported.{reported_four}
-use Rattle.qc_widths.specs.Faults.{token_of, rank_of, reported_of_both}
+use Rattle.qc_facts.specs.Faults.{token_of, rank_of, reported_of_both}
 use Rattle.qc_widths.proofs.repeated.second_names.Goals as goal
 
 pub returns : goal.returns

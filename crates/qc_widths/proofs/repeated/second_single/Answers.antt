@@ -4,8 +4,8 @@ use Rattle.std.proofs.Common.{ap, sym, ◌∙◌, arith, drop}
 use Rattle.std.proofs.lemmas.Grind.{common_steps}
 use Rattle.qc_widths.specs.TextFaults.{repeated_after, single_item}
 use Rattle.qc_names.specs.Law.Seen.{noted_more, seen_fault}
-use Rattle.qc_widths.specs.declared.faults.WidthFault.TheVariants.{TwiceNamed}
-use Rattle.qc_widths.specs.Faults.{token_of, rank_of, reported}
+use Rattle.qc_facts.specs.declared.faults.WidthFault.TheVariants.{TwiceNamed}
+use Rattle.qc_facts.specs.Faults.{token_of, rank_of, reported}
 use Rattle.qc_widths.specs.Inner.Repeated.{noted_all, single_name}
 use Rattle.qc_widths.proofs.Singles.{repeated_singles, single_names}
 use Rattle.qc_widths.proofs.repeated.second_single.Goals as goal

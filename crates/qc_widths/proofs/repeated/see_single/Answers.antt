@@ -2,8 +2,8 @@ use Rattle.std.specs.Prelude.{[], ◌∷◌, map}
 use Rattle.std.proofs.Common.{ap, ◌∙◌}
 use Rattle.std.proofs.lemmas.Result.{on_ok_weaker}
 use Rattle.qc_names.specs.Seen.{noted}
-use Rattle.qc_widths.specs.declared.faults.WidthFault.TheVariants.{TwiceNamed}
-use Rattle.qc_widths.specs.Faults.{token_of, rank_of}
+use Rattle.qc_facts.specs.declared.faults.WidthFault.TheVariants.{TwiceNamed}
+use Rattle.qc_facts.specs.Faults.{token_of, rank_of}
 use Rattle.qc_widths.specs.Inner.Repeated.{named_single, noted_all}
 use Rattle.qc_widths.proofs.repeated.see_single.Goals as goal
 

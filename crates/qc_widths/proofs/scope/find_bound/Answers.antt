@@ -1,7 +1,8 @@
 use Rattle.std.proofs.Common.{ap, sym, subst, ◌∙◌, ◌≡◌, ◌<◌, arith, rules, length, Some}
 use Rattle.qc_widths.specs.declared.scope.Bound.{Bound}
 use Rattle.qc_widths.specs.Inner.KeptValues.{IsBound}
-use Rattle.qc_widths.specs.Scopes.{local_bound, named}
+use Rattle.qc_resolve.specs.Scopes.{local_bound}
+use Rattle.qc_facts.specs.Facts.{named}
 use Rattle.qc_widths.proofs.Places.{got, placed_bound, unplaced_bound, placed_named, param_name, bound_name}
 use Rattle.qc_widths.proofs.Using.{got_some}
 use Rattle.qc_widths.proofs.scope.find_bound.Goals as goal

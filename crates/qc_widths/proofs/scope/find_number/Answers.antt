@@ -1,7 +1,7 @@
 use Rattle.std.proofs.Common.{ap, sym, ◌∙◌, ◌≡◌, ◌<◌, arith, rules, Some}
-use Rattle.qc_widths.specs.Declarations.{facts_of_operand}
-use Rattle.qc_widths.specs.Scopes as scopes
-use Rattle.qc_widths.specs.Scopes.{local_bound, named}
+use Rattle.qc_facts.specs.Facts.{facts_of_operand}
+use Rattle.qc_resolve.specs.Scopes as scopes
+use Rattle.qc_resolve.specs.Scopes.{local_bound}
 use Rattle.qc_widths.proofs.Places.{got, placed_operand, unplaced_operand, placed_named, operand_name}
 use Rattle.qc_widths.proofs.scope.find_number.Goals as goal
 

@@ -1,5 +1,5 @@
 use Rattle.std.proofs.Common.{◌≡◌, drop}
-use Rattle.qc_widths.specs.Scopes.{placed_from}
+use Rattle.qc_facts.specs.Facts.{placed_from}
 use Rattle.qc_widths.proofs.Places.{param_name}
 use Rattle.qc_widths.proofs.scope.find_param.Given as goal
 

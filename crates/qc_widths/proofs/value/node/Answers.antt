@@ -1,6 +1,6 @@
 use Rattle.std.proofs.Common.{ap, sym, ◌∙◌, ◌≡◌, ◌≤◌, false, ◌&&◌}
 use Rattle.qc_terms.specs.Tree.{tree_of, nodes_of}
-use Rattle.qc_widths.specs.Numbers.{is_empty}
+use Rattle.qc_facts.specs.Numbers.{is_empty}
 use Rattle.qc_widths.proofs.Seen.{sound_node, faulty_node, unsound}
 use Rattle.qc_widths.proofs.value.node.Goals as goal
 use Rattle.qc_widths.proofs.value.node.Goals.{in_default-via-in-None+else-sound, in_default-via-in_default}

@@ -14,8 +14,9 @@ returns-in_default-decode_likely-clause-step c =
     let same : c.self.inside.state ≡ c.args.self.now = c.self.view_is in
     let none : IsUndecodable c.args.descr.now c.self.inside.state.memory c.self.inside.state.pc =
     subst (λ m. IsUndecodable c.args.descr.now m c.self.inside.state.pc) c.as_slice-memory.ensures (c.in_default-decode_likely.ensures.none refl) in
-    subst (λ s. Steps c.args.descr.now s (outcome_of_trap 4 c.self.inside.state)) same
-    (steps_trapped c.args.descr.now c.self.inside.state c.in_default.is none)
+    rw (c.end_undecodable.ensures.state, c.end_undecodable.ensures.event)
+    (subst (λ s. Steps c.args.descr.now s (outcome_of_trap 4 c.self.inside.state)) same
+    (steps_trapped c.args.descr.now c.self.inside.state c.in_default.is none))
 
 pub bounds-as_slice-instance : goal.bounds-as_slice-instance
 bounds-as_slice-instance c =

@@ -1,0 +1,6 @@
+-- Words of the contracts of private functions.
+pub mod Depth
+pub mod Expanding
+pub mod Marking
+pub mod Reducing
+pub mod Weighing

@@ -1,0 +1,10 @@
+pub mod Inner
+pub mod Law
+pub mod Meanings
+pub mod Nodes
+pub mod Normals
+pub mod Plains
+pub mod Shapes
+pub mod Sizes
+pub mod Trees
+pub mod Written

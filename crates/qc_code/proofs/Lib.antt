@@ -1,0 +1,5 @@
+mod Broken
+mod Examples
+mod Listed
+mod OneLine
+mod Trees

@@ -1,0 +1,11 @@
+pub mod Examples
+pub mod Forest
+pub mod Goals
+pub mod Law
+pub mod Machine
+pub mod Matching
+pub mod Nodes
+pub mod Rules
+pub mod Same
+pub mod Sequence
+pub mod Valid

@@ -1,0 +1,3 @@
+-- Words of the contracts of private functions.
+pub mod Parts
+pub mod Pending

@@ -1,0 +1,3 @@
+-- Words of contracts of private functions.
+pub mod ArgumentFaults
+pub mod Numbering

@@ -1,0 +1,9 @@
+pub mod Declarations
+pub mod Effects
+pub mod Expressions
+pub mod FunctionTables
+pub mod Inner
+pub mod KeptNames
+pub mod KeptSignatures
+pub mod Law
+pub mod Scopes

@@ -1,0 +1,5 @@
+//! Rows on templates, by public calls alone.
+#![tactic(auto)]
+
+#[cfg(test)]
+mod templates;

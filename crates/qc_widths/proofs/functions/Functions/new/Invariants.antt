@@ -1,5 +1,0 @@
-use Rattle.qc_widths.specs.Inner.SpaceTables.{HasFirst}
-use Rattle.qc_widths.proofs.functions.Functions.new.Given as goal
-
-abbrev pub invariant-loop-place : goal.invariant-loop-place
-invariant-loop-place l = HasFirst l.items l.place l.declared l.numbers
