@@ -1,5 +1,6 @@
 """Measures how many steps the command run takes in a second, on three loops of three machines: one of arithmetic with a
-store and a load, one of calls, and one of stores and loads.
+store and a load, one of calls, and one of stores and loads; and on a loop of 16,000 instructions, which stand at more
+addresses than instructions are kept for.
 
 Run by hand, once the program is built (`rt run` in crates/quick): python3 bench/steps.py [OLD]. OLD is another build of
 the program quick, which is then measured beside the first in the same run, each loop by turns. Times are those of the
@@ -52,6 +53,15 @@ def rv32im_loops(rounds):
     yield "stores and loads", 8, begin + [
         store(2, 8, 5), load(2, 7, 8), store(1, 8, 7), load(5, 9, 8), store(0, 8, 9), load(0, 10, 8), count, branch_unequal(5, 6, -28), halt,
     ]
+
+
+FAR = 15_996
+
+
+def rv32im_far(rounds):
+    """FAR additions to x5, and then four instructions that count the rounds, the steps of all of them in a round."""
+    count = [immediate(0, 6, 6, 1), immediate(0, 8, 0, rounds), branch_unequal(6, 8, 8) & ~(1 << 12), jump(0, -4 * (FAR + 3))]
+    return FAR + len(count), [immediate(0, 5, 5, 1)] * FAR + count + [immediate(2, 0, 0, 0, 0x0B)]
 
 
 def tin32(op, a=0, b=0, c=0, constant=0):
@@ -118,6 +128,20 @@ def speed(program, machine, images, steps, none):
     return steps / max(longer - shorter, 1e-6)
 
 
+def written(folder, head, codes):
+    images = []
+    for number, code in enumerate(codes):
+        images.append(folder / f"image{number}")
+        images[-1].write_bytes(b"QCI1" + head + struct.pack("<II", len(code), 0) + code)
+    return images
+
+
+def tell(programs, machine, what, images, steps, none):
+    found = [speed(program, machine, images, steps, none) for program in programs]
+    beside = "".join(f", beside {other / 1e6:.1f} of {program}: {found[0] / other:.1f} times" for other, program in zip(found[1:], programs[1:]))
+    print(f"{machine}, {what}: {found[0] / 1e6:.1f} million steps a second{beside}", flush=True)
+
+
 def main():
     programs = [QUICK] + [Path(word) for word in sys.argv[1:]]
     missing = [program for program in programs if not program.exists()]
@@ -130,14 +154,12 @@ def main():
         for machine, head, loops, joined in MACHINES:
             few, many = 2 * HALF, ROUNDS // HALF * HALF
             for (what, length, short), (_, _, long) in zip(loops(few), loops(many)):
-                images = []
-                for number, code in enumerate((joined(short), joined(long))):
-                    image = Path(name) / f"image{number}"
-                    image.write_bytes(b"QCI1" + head + struct.pack("<II", len(code), 0) + code)
-                    images.append(image)
-                found = [speed(program, machine, images, (many - few) * length, none) for program in programs]
-                beside = "".join(f", beside {other / 1e6:.1f} of {program}: {found[0] / other:.1f} times" for other, program in zip(found[1:], programs[1:]))
-                print(f"{machine}, {what}: {found[0] / 1e6:.1f} million steps a second{beside}")
+                images = written(Path(name), head, [joined(short), joined(long)])
+                tell(programs, machine, what, images, (many - few) * length, none)
+
+        (length, short), (_, long) = rv32im_far(10), rv32im_far(1010)
+        images = written(Path(name), MACHINES[0][1], [rv32im(short), rv32im(long)])
+        tell(programs, "rv32im", "many addresses", images, 1000 * length, none)
 
 
 if __name__ == "__main__":

@@ -1,14 +1,11 @@
 -- What expressions come to where they are written out by rank.
-use Rattle.std.proofs.Common.{◌≡◌, ◌+◌, ◌*◌, ◌<◌, ◌≤◌, ℕ, zero, suc, List, [], ◌∷◌, length, map, take, slice_get, Option, None, Some, refl, sym, ◌∙◌, ap, arith, inl, inr, ◌⊎◌}
+use Rattle.std.proofs.Common.{◌≡◌, ◌<◌, ◌≤◌, ℕ, zero, suc, List, [], ◌∷◌, length, map, take, slice_get, Option, None, Some, refl, sym, ◌∙◌, ap, arith, inl, inr, ◌⊎◌}
 use Rattle.std.specs.List.{AllZip}
 use Rattle.std.specs.Option.{option_map}
 use Rattle.std.proofs.lemmas.Bool.{cases_lt}
-use Rattle.std.proofs.lemmas.Nat.{mul-le}
 use Rattle.std.proofs.lemmas.List.{length-map}
 use Rattle.std.proofs.lemmas.Option.{slice_get-map, slice_get_past}
-use Rattle.std.proofs.Math.Nat.{suc-mul}
 use Rattle.qc_bodies.specs.declared.nodes.Node.{Node}
-use Rattle.qc_bodies.specs.declared.normal.Normal.{size-Normal}
 use Rattle.qc_bodies.specs.declared.normal.Normals.{Normals}
 use Rattle.qc_bodies.specs.declared.normal.Ranked.{Ranked}
 use Rattle.qc_bodies.specs.Trees.{Core, one, Absent, Param, Use, several}
@@ -16,9 +13,8 @@ use Rattle.qc_bodies.specs.Meanings.{Meaning, used, value, value_or}
 use Rattle.qc_bodies.specs.Nodes.{IsAt}
 use Rattle.qc_bodies.specs.Normals.{at_places, function_of, functions_of, normal_of, ranked, ranked_param}
 use Rattle.qc_bodies.specs.Written.{written}
-use Rattle.qc_bodies.specs.Inner.Depth.{depths_of}
 use Rattle.qc_bodies.specs.Inner.Expanding.{Parameters, out, place_of_rank, written_functions}
-use Rattle.qc_bodies.proofs.Declared.{meaning_at, length_meanings}
+use Rattle.qc_bodies.specs.Law.Declared.{meaning_at, length_meanings}
 use Rattle.qc_bodies.proofs.Placed.{argument_at, no_argument_at}
 
 pub out_several : (ms : List (Meaning (Core one))) (ranks : List (Option ℕ)) (es xs : List (Core one))
@@ -127,25 +123,3 @@ no_function_out normals level number token es e = below (cases_lt number level)
         ap (λ m. used written token m [] es) (get_take (written_functions normals) level number h
         ∙ slice_get_past (written_functions normals) number (omega arith))
     below (inr h) = ap (λ m. used written token m [] es) (get_past (written_functions normals) level number h)
-
--- the measure
-deep : (fs : List Ranked) → 0 < depths_of fs
-deep [] = omega arith
-deep (f ∷ fs) = let h : 0 < depths_of fs = deep fs in omega arith
-
-shallower : (fs : List Ranked) (number : ℕ) (f : Ranked) → slice_get fs number ≡ Some f → size-Normal f.body < depths_of fs
-shallower [] number f e = absurd (cc)
-shallower (g ∷ gs) zero f e =
-    let same : g ≡ f = cc in
-    let d : size-Normal g.body ≡ size-Normal f.body = ap (λ x. size-Normal x.body) same in
-    let h : 0 < depths_of gs = deep gs in omega arith
-shallower (g ∷ gs) (suc number) f e = let h : size-Normal f.body < depths_of gs = shallower gs number f e in omega arith
-
-pub falls : (fs : List Ranked) (level number : ℕ) (f : Ranked) → slice_get (take level fs) number ≡ Some f → number < level
-    → number * depths_of fs + size-Normal f.body < level * depths_of fs
-falls fs level number f e h =
-    let get : slice_get fs number ≡ Some f = sym (get_take fs level number h) ∙ e in
-    let s : size-Normal f.body < depths_of fs = shallower fs number f get in
-    let k : suc number * depths_of fs ≤ level * depths_of fs = mul-le (suc number) (depths_of fs) level (depths_of fs) h (omega arith) in
-    let m : suc number * depths_of fs ≡ number * depths_of fs + depths_of fs = suc-mul number (depths_of fs) in
-    omega arith

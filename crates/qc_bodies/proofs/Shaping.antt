@@ -17,7 +17,7 @@ use Rattle.qc_bodies.specs.Written.{written}
 use Rattle.qc_bodies.specs.Inner.Expanding.{written_functions}
 use Rattle.qc_bodies.specs.Inner.Marking.{Each, IsRanked}
 use Rattle.qc_bodies.specs.Inner.Reducing.{ComesTo, Stay}
-use Rattle.qc_bodies.proofs.Declared.{length_meanings, meanings_push}
+use Rattle.qc_bodies.specs.Law.Declared.{length_meanings, meanings_push}
 use Rattle.qc_bodies.proofs.Expanding.{out_places}
 use Rattle.qc_bodies.proofs.Marking.{AreRanks, joined_some, ranked_value}
 use Rattle.qc_bodies.proofs.Reducing.{value_all}

@@ -1,5 +1,4 @@
 -- Words of the contracts of private functions.
-pub mod Depth
 pub mod Expanding
 pub mod Marking
 pub mod Reducing

@@ -8,12 +8,13 @@ ghost use Rattle.qc_core.specs.Puts.{ArePut, output_of};
 ghost use Rattle.qc_core.specs.Runs.{machine_process};
 ghost use Rattle.qc_descr.specs.Machine.{IsMachineOf};
 ghost use Rattle.qc_descr.specs.Valid.{IsValid};
+ghost use Rattle.qc_machine.specs.Cache.{IsCacheOf};
 
 use crate::answer::Status;
 use crate::lines::{ending_line, word_line};
 use crate::reporting::put_line;
 use qc_descr::{Description, some_outcome, step_tells_ending};
-use qc_machine::Machine;
+use qc_machine::{DecodeCache, Machine};
 use qc_outside::Out;
 use qc_terms::Event;
 use std::alloc::Global;
@@ -38,11 +39,13 @@ fn put_step<O: Out>(
     alloc: Global,
     out: &mut O,
     descr: &Description,
+    cache: &mut DecodeCache,
     machine: &mut Machine,
 ) -> Result<bool, Status>
     requires valid { IsValid descr.now }
     requires made { IsMachineOf descr.now machine.old }
     requires running { machine.old.ending ≡ None }
+    requires cached { IsCacheOf descr.now cache.old }
     ensures goes_on { IfOk result (λ goes_on. IsTrue goes_on →
         PutsStep (machine_process descr.now) machine.old machine.new
         (output_of (O.pieces out.old) (O.faults out.old)) (output_of (O.pieces out.new) (O.faults out.new))
@@ -53,10 +56,11 @@ fn put_step<O: Out>(
     ensures stops { IfErr result (StopsStep (machine_process descr.now) machine.old machine.new
         (output_of (O.pieces out.old) (O.faults out.old)) (output_of (O.pieces out.new) (O.faults out.new))) }
     ensures made { IsMachineOf descr.now machine.new }
+    ensures cache { IsCacheOf descr.now cache.new }
     ensures counts { CountsPutFaults result (O.faults out.old) (O.faults out.new) }
 {
     step_tells_ending();
-    match machine.step(descr) {
+    match machine.step_cached(descr, cache) {
         Event::Quiet => Ok(true),
         Event::Out { word } => match put_word(alloc, out, word) {
             Ok(()) => Ok(true),
@@ -84,8 +88,9 @@ fn put_words<O: Out>(
     ensures counts { CountsPutFaults result (O.faults out.old) (O.faults out.new) }
 {
     some_outcome();
+    let mut cache = DecodeCache::new(alloc);
     for _step in 0..steps {
-        match put_step(alloc, out, descr, machine) {
+        match put_step(alloc, out, descr, &mut cache, machine) {
             Ok(true) => {}
             Ok(false) => return Ok(()),
             Err(status) => return Err(status),

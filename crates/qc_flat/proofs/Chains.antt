@@ -15,7 +15,8 @@ use Rattle.qc_flat.specs.declared.chain.Link.{Link}
 use Rattle.qc_flat.specs.declared.chain.Link.TheVariants.{Apply, Load}
 use Rattle.qc_flat.specs.declared.chain.Source.{Source}
 use Rattle.qc_flat.specs.declared.chain.Source.TheVariants.{Number}
-use Rattle.qc_flat.specs.Chain.{AreTypedFrom, AreTypedLinks, IsChainOf, IsLinked, IsTypedChain, IsTypedLink, IsTypedSource, IsUnaryChain, after_link, after_links, value_of_chain, value_of_links, width_before, width_made, width_taken, word_of_source}
+use Rattle.qc_flat.specs.Chain.{AreTypedLinks, IsChainOf, IsTypedChain, IsTypedLink, IsTypedSource, after_link, after_links, value_of_chain, width_before, width_made, width_taken, word_of_source}
+use Rattle.qc_flat.specs.Inner.Links.{AreTypedFrom, IsLinked, IsUnaryChain, value_of_links}
 
 -- ---- values that may be missing
 

@@ -1,17 +1,22 @@
 -- Register transfer lists whose terms are chains, and what they do. They set cells, memory and the program counter, and
 -- read no input.
-use Rattle.std.specs.Prelude.{ℕ, ◌≡◌, ◌<◌, ◌≤◌, List, [], ◌∷◌, ◌++◌, length, slice_index, Option, None, Some, IfSome, option_and_then, false, if◌then◌else◌, nat_eq, All}
+use Rattle.std.specs.Prelude.{ℕ, ◌≡◌, ◌<◌, ◌≤◌, List, [], ◌∷◌, ◌++◌, length, slice_index, Option, None, Some, IfSome, option_and_then, Bool, true, false, not, ◌&&◌, if◌then◌else◌, nat_eq, nat_le, All}
+use Rattle.std.specs.List.{list_all}
 use Rattle.std.specs.Option.{option_map}
 use Rattle.qc_terms.specs.declared.state.State.{State}
+use Rattle.qc_terms.specs.declared.term.Dest.{Dest}
+use Rattle.qc_terms.specs.declared.term.Dest.TheVariants as dest
 use Rattle.qc_terms.specs.declared.term.Effect.{Effect}
 use Rattle.qc_terms.specs.declared.term.Rtl.{Rtl}
-use Rattle.qc_terms.specs.Effects.{Outcome, outcome_of, ToCell, ToCounter, Write, outcome_of_writes, store_at, writes_of_effect}
+use Rattle.qc_terms.specs.declared.term.Term.{Term}
+use Rattle.qc_terms.specs.Effects.{Outcome, outcome_of, ToCell, ToCounter, Write, outcome_of_writes, rtl_has_input, store_at, writes_of_effect}
 use Rattle.qc_terms.specs.State.{Context}
+use Rattle.qc_terms.specs.Tree.{tree_of}
 use Rattle.qc_flat.specs.declared.chain.Chain.{Chain}
 use Rattle.qc_flat.specs.declared.effect.FlatDest.{FlatDest}
 use Rattle.qc_flat.specs.declared.effect.FlatDest.TheVariants.{Cell, Memory, Counter}
 use Rattle.qc_flat.specs.declared.effect.FlatEffect.{FlatEffect}
-use Rattle.qc_flat.specs.Chain.{IsTypedChain, value_of_chain}
+use Rattle.qc_flat.specs.Chain.{IsTypedChain, has_chain, value_of_chain}
 
 -- the write of a word; none where a store has no address, or isn't wholly inside the memory
 abbrev pub flat_write_of : FlatDest → State → ℕ → Option Write
@@ -73,3 +78,29 @@ AreFlatOf context zero operands after _ _ = ⊥
 pub record IsFlatListOf (context : Context) (zero : Option (ℕ × ℕ)) (rtl : Rtl) (operands : List ℕ) (after : ℕ) (fs : List FlatEffect) : Type 0 where
   pub typed : All (IsTypedFlatEffect context) fs
   pub outcome : (s : State) → s.facts.zero ≡ zero → outcome_of_flat fs after s ≡ outcome_of rtl operands after s
+
+-- an effect without a guard needs no chain for it
+abbrev pub has_flat_guard : Option Term → Bool
+has_flat_guard None = true
+has_flat_guard (Some guard) = has_chain (tree_of guard)
+
+-- the destination shows nothing, and its address, if it has one, has a chain
+abbrev pub has_flat_dest : Dest → Bool
+has_flat_dest (dest.Reg place) = true
+has_flat_dest (dest.Mem width address) = has_chain (tree_of address)
+has_flat_dest dest.Pc = true
+has_flat_dest dest.Out = false
+has_flat_dest dest.Halt = false
+has_flat_dest dest.Trap = false
+
+-- the effect shows nothing, and each of its terms has a chain
+unfoldable pub has_flat_effect : Effect → Bool
+has_flat_effect e = has_flat_guard e.guard && (has_flat_dest e.to && has_chain (tree_of e.value))
+
+-- at most three effects, each of which has a flat one
+abbrev pub have_flat_effects : List Effect → Bool
+have_flat_effects es = nat_le (length es) 3 && list_all has_flat_effect es
+
+-- Which lists have flat effects: those that read no input, show nothing, have at most three effects and no long terms.
+abbrev pub has_flat_form : Rtl → Bool
+has_flat_form rtl = not (rtl_has_input rtl) && have_flat_effects rtl.effects

@@ -1,6 +1,7 @@
 //! Terms as chains: a word that is at hand, and then operators, each of which takes the word that was made last.
 ghost use Rattle.std.specs.Prelude.{◌≡◌, ◌<◌, ◌^◌, ℕ, IfSome};
-ghost use Rattle.qc_flat.specs.Chain.{AreTypedLinks, IsThere, IsTypedChain, IsTypedLink, IsTypedSource, after_link, after_links, value_of_chain, width_before, width_made, width_taken, word_of_source};
+ghost use Rattle.qc_flat.specs.Chain.{AreTypedLinks, IsTypedChain, IsTypedLink, IsTypedSource, after_link, after_links, value_of_chain, width_before, width_made, width_taken, word_of_source};
+ghost use Rattle.qc_flat.specs.Inner.Links.{IsThere};
 ghost use Rattle.qc_terms.specs.State.{IsState, context_of};
 
 use crate::words::load;
@@ -8,14 +9,12 @@ use arrayvec::ArrayVec;
 use qc_terms::State;
 use qc_words::{Op, Width, apply};
 
-/// How many operators a chain has at most.
-pub(crate) const LINKS: usize = 4;
-
-/// A word that is at hand: a number, or the one in a cell, which isn't the zero cell.
+/// A word that is at hand: a number, the one in a cell, or that of the cell which always reads 0.
 #[derive(Clone, Copy, Debug)]
 pub enum Source {
     Number { value: u64 },
     Cell { space: u32, index: u64 },
+    Zero,
 }
 
 /// What is done with the word that was made last, which has `width` bits: an operator is applied to it and to a second
@@ -62,6 +61,7 @@ fn word_at_hand(source: Source, state: &State) -> u64
     match source {
         Source::Number { value } => value,
         Source::Cell { space, index } => state.cells.read(space, index),
+        Source::Zero => 0,
     }
 }
 

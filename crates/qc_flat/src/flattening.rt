@@ -1,6 +1,7 @@
 //! Flat effects from register transfer lists.
 ghost use Rattle.std.specs.Prelude.{◌≡◌, ◌<◌, ◌^◌, ℕ, All, IfSome, IsTrue};
-ghost use Rattle.qc_flat.specs.Flat.{AreFlatOf, IsFlatListOf, IsFlatOf};
+ghost use Rattle.std.specs.Option.{is_some};
+ghost use Rattle.qc_flat.specs.Flat.{AreFlatOf, IsFlatListOf, IsFlatOf, has_flat_dest, has_flat_effect, has_flat_form, has_flat_guard, have_flat_effects};
 ghost use Rattle.qc_terms.specs.State.{context_of};
 ghost use Rattle.qc_terms.specs.Tree.{tree_of, width_of};
 ghost use Rattle.qc_terms.specs.Typing.{DestFits, EffectFits, IsTyped, IsTypedEffect, IsTypedRtl, OperandsFit, RtlFits, TakesWidth};
@@ -22,7 +23,8 @@ fn flat_guard(
     requires typed { IfSome guard.now (λ g. IsTyped (context_of state.now) (tree_of g)) }
     requires fits { IfSome guard.now (λ g. OperandsFit (context_of state.now) operands.now (tree_of g)) }
     requires after { after < 2 ^ state.now.facts.word }
-    ensures { IfSome result (IsGuardOf (context_of state.now) state.now.facts.zero operands.now after guard.now) }
+    ensures guard { IfSome result (IsGuardOf (context_of state.now) state.now.facts.zero operands.now after guard.now) }
+    ensures exactly { is_some result ≡ has_flat_guard guard.now }
 {
     match guard {
         Some(guard) => Some(Some(chain_of(guard, operands, after, state)?)),
@@ -35,7 +37,8 @@ fn flat_dest(to: &Dest, operands: &[u64], after: u64, state: &State) -> Option<F
     requires typed { (width : ℕ) × TakesWidth (context_of state.now) to.now width }
     requires fits { DestFits (context_of state.now) operands.now to.now }
     requires after { after < 2 ^ state.now.facts.word }
-    ensures { IfSome result (IsDestOf (context_of state.now) state.now.facts.zero operands.now after to.now) }
+    ensures dest { IfSome result (IsDestOf (context_of state.now) state.now.facts.zero operands.now after to.now) }
+    ensures exactly { is_some result ≡ has_flat_dest to.now }
 {
     match to {
         Dest::Reg { place } => Some(FlatDest::Cell {
@@ -51,12 +54,14 @@ fn flat_dest(to: &Dest, operands: &[u64], after: u64, state: &State) -> Option<F
     }
 }
 
+#[tactic(auto, unfolding(crate::specs::Flat::has_flat_effect))]
 /// The effect with its operands filled in, where its terms are chains and it shows nothing.
 fn flat_effect(effect: &Effect, operands: &[u64], after: u64, state: &State) -> Option<FlatEffect>
     requires typed { IsTypedEffect (context_of state.now) effect.now }
     requires fits { EffectFits (context_of state.now) operands.now effect.now }
     requires after { after < 2 ^ state.now.facts.word }
-    ensures { IfSome result (IsFlatOf (context_of state.now) state.now.facts.zero operands.now after effect.now) }
+    ensures effect { IfSome result (IsFlatOf (context_of state.now) state.now.facts.zero operands.now after effect.now) }
+    ensures exactly { is_some result ≡ has_flat_effect effect.now }
 {
     let guard = flat_guard(&effect.guard, operands, after, state)?;
     let to = flat_dest(&effect.to, operands, after, state)?;
@@ -74,7 +79,8 @@ fn flat_effects(
     requires typed { All (IsTypedEffect (context_of state.now)) effects.now }
     requires fits { All (EffectFits (context_of state.now) operands.now) effects.now }
     requires after { after < 2 ^ state.now.facts.word }
-    ensures { IfSome result (λ flat. AreFlatOf (context_of state.now) state.now.facts.zero operands.now after effects.now flat.items) }
+    ensures effects { IfSome result (λ flat. AreFlatOf (context_of state.now) state.now.facts.zero operands.now after effects.now flat.items) }
+    ensures exactly { is_some result ≡ have_flat_effects effects.now }
 {
     match effects {
         [] => Some(ArrayVec::new()),
@@ -89,13 +95,14 @@ fn flat_effects(
     }
 }
 
-/// A register transfer list with the operands of an instance and the address after it filled in, where it reads no input,
-/// shows nothing, has few effects, and each of its terms is a chain.
+/// A register transfer list with the operands of an instance and the address after it filled in. There is one exactly where
+/// the list reads no input, shows nothing, has at most three effects, and each of its terms is a chain.
 pub fn flatten(rtl: &Rtl, operands: &[u64], after: u64, state: &State) -> Option<FlatEffects>
     requires typed { IsTypedRtl (context_of state.now) rtl.now }
     requires operands { RtlFits (context_of state.now) operands.now rtl.now }
     requires after { after < 2 ^ state.now.facts.word }
-    ensures { IfSome result (λ flat. IsFlatListOf (context_of state.now) state.now.facts.zero rtl.now operands.now after flat.items) }
+    ensures flat { IfSome result (λ flat. IsFlatListOf (context_of state.now) state.now.facts.zero rtl.now operands.now after flat.items) }
+    ensures exactly { is_some result ≡ has_flat_form rtl.now }
 {
     if rtl.has_input() {
         return None;

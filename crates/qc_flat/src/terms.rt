@@ -1,7 +1,9 @@
 //! Chains from terms.
-ghost use Rattle.std.specs.Prelude.{◌≡◌, ◌<◌, ◌^◌, [], ◌∷◌, ℕ, IfNone, IfSome};
+ghost use Rattle.std.specs.Prelude.{◌≡◌, ◌<◌, ◌^◌, [], ◌∷◌, ℕ, false, length, IfSome};
+ghost use Rattle.std.specs.Option.{is_some};
 ghost use Rattle.qc_words.specs.Operators.{Accepts, result_width_of};
-ghost use Rattle.qc_flat.specs.Chain.{IsChainOf, IsLinked, IsTypedSource, IsUnaryChain, word_of_source};
+ghost use Rattle.qc_flat.specs.Chain.{IsChainOf, IsTypedSource, is_number, link_count, one_link_more, word_of_source};
+ghost use Rattle.qc_flat.specs.Inner.Links.{IsLinked, IsUnaryChain, is_number_alone, links_after_one, links_of};
 ghost use Rattle.qc_terms.specs.declared.state.State.{State};
 ghost use Rattle.qc_terms.specs.State.{context_of};
 ghost use Rattle.qc_terms.specs.Tree.{tree_of};
@@ -31,11 +33,12 @@ fn source_of(place: Place, operands: &[u64], state: &State) -> Source
         word_of_source result s ≡ read_of s (space_of place) (index_of place operands.now) }
     ensures typed { (width : ℕ) → IsRegister (context_of state.now) place width → PlaceFits (context_of state.now) operands.now place →
         IsTypedSource (context_of state.now) width result }
+    ensures cell { is_number_alone result [] ≡ false }
 {
     let space = place.space();
     let index = cell_index(place, operands);
     if state.facts.is_zero_cell(space, index) {
-        Source::Number { value: 0 }
+        Source::Zero
     } else {
         Source::Cell { space, index }
     }
@@ -56,7 +59,8 @@ fn unlinked(start: Source, width: Width) -> Chain
 
 /// A chain and one link more, where it has room for it.
 fn linked(start: Source, mut links: ArrayVec<Link, 4>, link: Link, width: Width) -> Option<Chain>
-    ensures { IfSome result (IsLinked start links.items link width) }
+    ensures chain { IfSome result (IsLinked start links.items link width) }
+    ensures links { links_of result ≡ one_link_more (length links.items) }
 {
     if links.is_full() {
         return None;
@@ -71,11 +75,12 @@ fn linked(start: Source, mut links: ArrayVec<Link, 4>, link: Link, width: Width)
 
 /// The number that a word at hand with these links is, where it is one.
 fn number_of(start: Source, links: &[Link]) -> Option<u64>
-    ensures { IfSome result (λ value. (start ≡ Source.Number value) × (links.now ≡ [])) }
+    ensures number { IfSome result (λ value. (start ≡ Source.Number value) × (links.now ≡ [])) }
+    ensures exactly { is_some result ≡ is_number_alone start links.now }
 {
     match start {
         Source::Number { value } => { if links.is_empty() { Some(value) } else { None } }
-        Source::Cell { .. } => None,
+        Source::Cell { .. } | Source::Zero => None,
     }
 }
 
@@ -87,7 +92,8 @@ fn applied(
     width: Width,
     second: Source,
 ) -> Option<Chain>
-    ensures { IfSome result (IsLinked start links.items (Link.Apply op.now width second) (result_width_of op.now width)) }
+    ensures chain { IfSome result (IsLinked start links.items (Link.Apply op.now width second) (result_width_of op.now width)) }
+    ensures links { links_of result ≡ one_link_more (length links.items) }
 {
     let made = result_width(*op, width);
     let link = Link::Apply {
@@ -102,7 +108,9 @@ fn applied(
 fn applied_to_one(op: &Op, start: Source, links: ArrayVec<Link, 4>, width: Width) -> Option<Chain>
     requires accepted { Accepts op.now width }
     requires number { (value : ℕ) → start ≡ Source.Number value → links.items ≡ [] → value < 2 ^ width }
-    ensures { IfSome result (IsUnaryChain op.now start links.items width) }
+    ensures chain { IfSome result (IsUnaryChain op.now start links.items width) }
+    ensures links { links_of result ≡ links_after_one start links.items }
+    ensures number { IfSome result (λ c. is_number_alone c.start c.links.items ≡ is_number_alone start links.items) }
 {
     if let Some(value) = number_of(start, links.as_slice()) {
         let made = result_width(*op, width);
@@ -118,7 +126,9 @@ pub fn chain_of(term: &Term, operands: &[u64], after: u64, state: &State) -> Opt
     requires typed { IsTyped (context_of state.now) (tree_of term.now) }
     requires operands { OperandsFit (context_of state.now) operands.now (tree_of term.now) }
     requires after { after < 2 ^ state.now.facts.word }
-    ensures { IfSome result (IsChainOf (context_of state.now) state.now.facts.zero operands.now after (tree_of term.now)) }
+    ensures chain { IfSome result (IsChainOf (context_of state.now) state.now.facts.zero operands.now after (tree_of term.now)) }
+    ensures links { links_of result ≡ link_count (tree_of term.now) }
+    ensures number { IfSome result (λ c. is_number_alone c.start c.links.items ≡ is_number (tree_of term.now)) }
 {
     match term {
         Term::Num { value, width } => Some(unlinked(Source::Number { value: *value }, *width)),

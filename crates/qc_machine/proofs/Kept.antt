@@ -1,6 +1,7 @@
 -- Instances that were kept, and the steps of a machine that stands at one.
-use Rattle.std.proofs.Common.{◌≡◌, ◌∙◌, ℕ, ◌+◌, ◌%◌, ◌^◌, ◌<◌, List, ◌++◌, Some, None, All, IfSome, length, take, drop, get_or, ap, sym, subst}
+use Rattle.std.proofs.Common.{◌≡◌, ◌∙◌, ℕ, ◌+◌, ◌%◌, ◌^◌, ◌<◌, Bool, true, false, if◌then◌else◌, List, [], ◌∷◌, ◌++◌, Some, None, All, IfSome, length, take, drop, get_or, ap, sym, subst}
 use Rattle.std.specs.List.{slice_get}
+use Rattle.std.proofs.lemmas.List.Elements.{All-push}
 use Rattle.std.proofs.lemmas.Option.{IfSome_then, same_Some}
 use Rattle.arrayvec.specs.ArrayVec.{ArrayVec}
 use Rattle.qc_terms.specs.declared.state.Facts.{Facts}
@@ -25,6 +26,12 @@ pub read_holds : {X : Type 0} (P : X → Type 0) (xs ys : List X) (i : ℕ) (x y
     y ≡ x → P x
 read_holds P xs ys i x y all same inside read is =
     subst P (sym read ∙ is) (subst (All P) (sym same) all i y inside)
+
+-- what holds of each element holds of each where one more was to be added
+pub pushed : {X : Type 0} (P : X → Type 0) (ok : Bool) (xs ys : List X) (x : X) → ys ≡ (if ok then xs ++ x ∷ [] else xs) → All P xs → P x →
+    All P ys
+pushed P true xs ys x is all one = subst (All P) (sym is) (All-push P xs x all one)
+pushed P false xs ys x is all one = subst (All P) (sym is) all
 
 -- the facts of a machine are its description's
 zero_is : (d : Description) (s : State) → IsMachineOf d s → s.facts.zero ≡ d.facts.zero

@@ -17,7 +17,7 @@ pub record IsKeptOf (d : Description) (kept : Kept) : Type 0 where
 
 -- each instance in the cache is one of the description
 abbrev pub IsCacheOf : Description → DecodeCache → Type 0
-IsCacheOf d cache = All (λ place. IfSome place (IsKeptOf d)) cache.places.items
+IsCacheOf d cache = All (IsKeptOf d) cache.instances.items
 
 -- the instance is one of the description for this address, and its bytes stand there in the memory
 pub record StandsAt (d : Description) (memory : List ℕ) (at : ℕ) (kept : Kept) : Type 0 where

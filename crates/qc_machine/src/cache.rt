@@ -9,8 +9,11 @@ use qc_flat::FlatEffects;
 use qc_text::NoMemory;
 use std::alloc::Global;
 
-/// How many instances are kept.
-const PLACES: usize = 2048;
+/// Of how many places the instance that was decoded last is kept.
+const PLACES: usize = 16_384;
+
+/// The number of an instance where none is kept.
+const NO_NUMBER: usize = usize::MAX;
 
 /// An instance that was decoded at an address, with the bytes that it was decoded from, the address after it, and what it
 /// does where that has a flat form.
@@ -23,18 +26,18 @@ pub(crate) struct Kept {
     pub(crate) instance: Instance,
 }
 
-/// The instances of one description that were decoded last, one at most for all addresses of a place. What is decoded at
-/// an address depends on the address and the bytes alone: so an instance is found again where its bytes stand at its
-/// address.
+/// The instances of one description that were decoded last, one at most for all addresses of a place, whose number among
+/// them `numbers` has. What is decoded at an address depends on the address and the bytes alone: so an instance is found
+/// again where its bytes stand at its address.
 #[derive(Debug, Drop)]
 pub struct DecodeCache {
-    alloc: Global,
-    places: Vec<Option<Kept>>,
+    numbers: [usize; PLACES],
+    instances: Vec<Kept>,
 }
 
 /// Where the instance of an address is kept.
 fn place_of(at: u64) -> usize
-    ensures { result < 2048 }
+    ensures { result < 16384 }
 {
     (at / 2) as usize % PLACES
 }
@@ -72,33 +75,31 @@ fn stand_at(memory: &[u8], at: u64, bytes: &[u8]) -> bool
     begins_with(memory_from(memory, at), bytes)
 }
 
-/// All places, without any instance.
-fn empty_places(alloc: Global) -> Result<Vec<Option<Kept>>, NoMemory>
-    ensures { IfOk result (λ places. (d : Description) → All (λ place. IfSome place (IsKeptOf d)) places.items) }
+/// Adds an instance, where there is memory for it.
+fn add(instances: &mut Vec<Kept>, kept: Kept)
+    ensures { (d : Description) → All (IsKeptOf d) instances.old.items → IsKeptOf d kept → All (IsKeptOf d) instances.new.items }
 {
-    let mut places = Vec::with_capacity(alloc, PLACES)?;
-    for _ in 0..PLACES {
-        places.push(None)?;
-    }
-    Ok(places)
+    let _ = instances.push(kept);
 }
 
 impl DecodeCache {
-    /// A cache without any instance. It takes its memory when the first one comes; where there is none, nothing is kept.
+    /// A cache without any instance. It takes memory as instances come; one for which there is none is not kept.
     pub fn new(alloc: Global) -> DecodeCache
         ensures { (d : Description) → IsCacheOf d result }
     {
         DecodeCache {
-            alloc,
-            places: Vec::new(alloc),
+            numbers: [NO_NUMBER; PLACES],
+            instances: Vec::new(alloc),
         }
     }
 
     /// The instance that was kept for an address, where its bytes still stand there.
+    #[inline(always)]
     pub(crate) fn kept_at(&self, memory: &[u8], at: u64) -> Option<&Kept>
         ensures { IfSome result (λ kept. (d : Description) → IsCacheOf d self.now → StandsAt d memory.now at kept.now) }
     {
-        let Some(Some(kept)) = self.places.as_slice().get(place_of(at)) else {
+        let number = self.numbers[place_of(at)];
+        let Some(kept) = self.instances.as_slice().get(number) else {
             return None;
         };
         if kept.at == at && stand_at(memory, at, kept.bytes.as_slice()) {
@@ -112,14 +113,14 @@ impl DecodeCache {
     pub(crate) fn keep(&mut self, kept: Kept)
         ensures { (d : Description) → IsCacheOf d self.old → IsKeptOf d kept → IsCacheOf d self.new }
     {
-        if self.places.is_empty()
-            && let Ok(places) = empty_places(self.alloc)
-        {
-            self.places = places;
-        }
         let place = place_of(kept.at);
-        if place < self.places.len() {
-            self.places[place] = Some(kept);
+        let number = self.numbers[place];
+        let count = self.instances.len();
+        if number < count {
+            self.instances[number] = kept;
+        } else {
+            self.numbers[place] = count;
+            add(&mut self.instances, kept);
         }
     }
 }

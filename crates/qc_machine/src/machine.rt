@@ -276,6 +276,22 @@ impl Machine {
         if let Some(kept) = cache.kept_at(self.state.memory.as_slice(), pc) {
             return run_kept(descr, kept, &mut self.state);
         }
+        self.step_new(descr, cache)
+    }
+
+    /// The step of a machine that goes on, whose instance is decoded and then kept. It isn't inlined, since its large locals
+    /// would be cleared at each step.
+    #[inline(never)]
+    fn step_new(&mut self, descr: &Description, cache: &mut DecodeCache) -> Event
+        requires running { self.old.ending ≡ None }
+        requires valid { IsValid descr.now }
+        requires made { IsMachineOf descr.now self.old }
+        requires cached { IsCacheOf descr.now cache.old }
+        ensures step { Steps descr.now self.old (record { state = self.new; event = result }) }
+        ensures kept { IsMachineOf descr.now self.new }
+        ensures cache { IsCacheOf descr.now cache.new }
+    {
+        let pc = self.state.pc;
         let memory = self.state.memory.as_slice();
         let Some((instance, size)) = self.decoder.decode(descr, memory, pc) else {
             return end_undecodable(&mut self.state);

@@ -3,7 +3,8 @@
 -- for marked words (`same_reads`, `fine_too`, `all_both`, `outcomes_alike`); Views and After have the same of virtual registers
 -- (`seen_agree`, `after_together`); Kept has what a fine line keeps; Independent has that a run at one placing is followed at another
 -- (`grouped`), and Placings that tame code means the same at all of them (`tame_means_the_same`); Valid has that descriptions suit
--- (`valid_suits`). Cells, Bytes and Writes have what a write leaves.
+-- (`valid_suits`). MachineTurns has that a described machine turns in time (`machine_turns_in_time`). Cells, Bytes and Writes have what
+-- a write leaves.
 pub mod After
 pub mod Agree
 pub mod Bytes
@@ -15,6 +16,7 @@ pub mod Invariant
 pub mod Kept
 pub mod Landing
 pub mod Machine
+pub mod MachineTurns
 pub mod Outcomes
 pub mod Placings
 pub mod Sound

@@ -8,6 +8,7 @@ pub mod Kept
 pub mod Kinds
 pub mod Landing
 pub mod Law
+pub mod MachineRuns
 pub mod Liveness
 pub mod Load
 pub mod Marked

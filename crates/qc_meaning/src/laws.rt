@@ -16,6 +16,9 @@ ghost use Rattle.qc_runs.specs.Automaton.{IsBefore, after, before};
 ghost use Rattle.qc_meaning.specs.Code.{Flat, Standing};
 ghost use Rattle.qc_meaning.specs.Examples.{CodeExamples};
 ghost use Rattle.qc_meaning.specs.Runs.{Data, code_run};
+ghost use Rattle.qc_meaning.specs.MachineRuns.{IsRunFrom, StandsAtThese, machine_run};
+ghost use Rattle.qc_descr.specs.Step.{Progress};
+ghost use Rattle.qc_terms.specs.declared.state.State.{State};
 ghost use Rattle.qc_meaning.specs.Tame.{IsTame, MeanTheSame, most_steps};
 
 /// Code that is tame means the same at all placings of its lines: for every input, two runs of it, at two placings, show the
@@ -35,6 +38,13 @@ pub fn one_state_before_a_turn()
 pub fn turns_come_in_time()
     ensures { (d : Description) (x : Flat) (at : ℕ → ℕ) (s u : ℕ × Data) (t : ℕ) → IsBefore (code_run d x at) s t u →
         (n : ℕ) × (n ≤ suc t * most_steps x) × (u ≡ after (code_run d x at) n s) }
+{}
+
+/// The state of a described machine before turn t + 1 of its run is reached within t + 1 times as many steps as there are
+/// instructions, where those are all that it stands at.
+pub fn machines_turn_in_time()
+    ensures { (d : Description) (s : State) (run : ℕ → Progress) (starts : List ℕ) → IsRunFrom d s run → StandsAtThese run starts →
+        (t u : ℕ) → IsBefore (machine_run run) 0 t u → u ≤ suc t * length starts }
 {}
 
 /// Worked examples of the definitions.

@@ -7,6 +7,6 @@ mod lines;
 
 pub use laws::{
     code_keeps_the_machine_invariant, examples_of_code, homed_code_has_the_procedures,
-    one_state_before_a_turn, tame_code_means_the_same, turns_come_in_time,
+    machines_turn_in_time, one_state_before_a_turn, tame_code_means_the_same, turns_come_in_time,
 };
 pub use lines::{Code, Line, Placed, TileCode, TileLine};

@@ -8,6 +8,8 @@ mod commands;
 #[cfg(test)]
 mod compilations;
 #[cfg(test)]
+mod programs;
+#[cfg(test)]
 mod runs;
 #[cfg(test)]
 mod usages;

@@ -2,7 +2,8 @@
 //!
 //! A text has the operands before their operator. `a`, `b` and `c` are registers of 32 bits and `bit` is one of 1 bit,
 //! `k` is an immediate operand of 32 bits, `input` the next word of the input. A number is written with its width, as
-//! `5'32`, and a width of an operator, or the first bit of a slice, stands before it, as in `a 0 8 slice`.
+//! `5'32`, and a width of an operator, or the first bit of a slice, stands before it, as in `a 0 8 slice`
+//! or `a 8 load`.
 
 ghost use Rattle.std.specs.Prelude.{◌≡◌, ◌<◌, IsTrue, length};
 ghost use Rattle.qc_words.specs.Operators.{is_unary};
@@ -171,6 +172,12 @@ pub(crate) fn term(rt: &impl Abort, alloc: Global, pool: &mut Pool, text: &str) 
                 )
             };
             stack.push(id).expect(rt, "memory");
+        } else if word == "load" {
+            let width = width(rt, bits(rt, numbers.pop()));
+            let address = stack.pop().expect(rt, "an address");
+            stack
+                .push(put(rt, pool, Node::Mem { width, address }))
+                .expect(rt, "memory");
         } else {
             numbers.push(decimal(rt, word)).expect(rt, "memory");
         }

@@ -10,6 +10,7 @@ loop-step-init g c = record {
   words = no_step (machine_process c.args.descr.now) c.args.machine.now (output_of (g.O.Out.pieces c.args.out.now) (g.O.Out.faults c.args.out.now));
   running = c.requires.running;
   made = c.requires.made;
+  cached = c.new-cache.ensures c.args.descr.now;
   kept = refl;
   later = omega arith;
 }
@@ -52,6 +53,7 @@ loop-step-preserved g c =
           (step_put p c.args.machine.now c.loop-step.machine c.put_step.new.machine c.loop-step._step old mid new c.loop-step.invariant.words step);
       running = step.stands;
       made = c.put_step.ensures.made;
+      cached = c.put_step.ensures.cache;
       kept = c.in-Ok-true.ensures.counts.kept ∙ c.loop-step.invariant.kept;
       later = omega (arith, c.put_step.ensures.counts.later, c.loop-step.invariant.later);
     }

@@ -5,8 +5,8 @@ use Rattle.qc_flat.specs.Flat.{AreFlatOf}
 use Rattle.qc_flat.proofs.Effects.{flat_push}
 use Rattle.qc_flat.proofs.flattening.+flat_effects.Goals as goal
 
-pub returns-in_ok-flat_effect-in-len1-up : goal.returns-in_ok-flat_effect-in-len1-up
-returns-in_ok-flat_effect-in-len1-up t c =
+pub returns-in_ok-flat_effect-in-len1-up-clause-effects : goal.returns-in_ok-flat_effect-in-len1-up-clause-effects
+returns-in_ok-flat_effect-in-len1-up-clause-effects t c =
     let s = c.args.state.now in
     let es = c.args.effects.now in
     let n = length es - 1 in
@@ -19,4 +19,4 @@ returns-in_ok-flat_effect-in-len1-up t c =
     rw c.push.ensures.items
     (subst (λ xs. AreFlatOf (context_of s) s.facts.zero c.args.operands.now c.args.after xs (flat ++ added ∷ [])) whole
     (flat_push (context_of s) s.facts.zero c.args.operands.now c.args.after (take n es) flat last added
-    c.in_ok-flat-in-len1-up.ensures c.in_ok-flat_effect-in-len1-up.ensures))
+    c.in_ok-flat-in-len1-up.ensures.effects c.in_ok-flat_effect-in-len1-up.ensures.effect))

@@ -7,8 +7,8 @@ use Rattle.qc_flat.specs.Chain.{IsChainOf}
 use Rattle.qc_flat.proofs.Chains.{of_binary, of_load, of_unary}
 use Rattle.qc_flat.proofs.terms.+chain_of.Goals as goal
 
-pub returns-in_ok-start-in-Un : goal.returns-in_ok-start-in-Un
-returns-in_ok-start-in-Un t c =
+pub returns-in_ok-start-in-Un-clause-chain : goal.returns-in_ok-start-in-Un-clause-chain
+returns-in_ok-start-in-Un-clause-chain t c =
     let s = c.args.state.now in
     let op = c.in-Un.op in
     let arg = c.in-Un.arg in
@@ -16,12 +16,12 @@ returns-in_ok-start-in-Un t c =
     let tree : tree_of c.args.term.now ≡ Unary op (tree_of arg) = ap tree_of c.in-Un.is ∙ tree_of-un op arg in
     let is : IsChainOf (context_of s) s.facts.zero c.args.operands.now c.args.after (tree_of arg) d = search rules in
     let typed : IsTyped (context_of s) (Unary op (tree_of arg)) = subst (IsTyped (context_of s)) tree c.requires.typed in
-    IfSome_then c.applied_to_one.result c.applied_to_one.ensures
+    IfSome_then c.applied_to_one.result c.applied_to_one.ensures.chain
     (λ r made. subst (λ x. IsChainOf (context_of s) s.facts.zero c.args.operands.now c.args.after x r) (sym tree)
     (of_unary (context_of s) s.facts.zero c.args.operands.now c.args.after op (tree_of arg) d r typed is made))
 
-pub returns-in_ok-start-in-Bin : goal.returns-in_ok-start-in-Bin
-returns-in_ok-start-in-Bin t c =
+pub returns-in_ok-start-in-Bin-clause-chain : goal.returns-in_ok-start-in-Bin-clause-chain
+returns-in_ok-start-in-Bin-clause-chain t c =
     let s = c.args.state.now in
     let op = c.in-Bin.op in
     let left = c.in-Bin.left in
@@ -33,12 +33,12 @@ returns-in_ok-start-in-Bin t c =
     let other : IsChainOf (context_of s) s.facts.zero c.args.operands.now c.args.after (tree_of right) e = search rules in
     let alone : e.links.items ≡ [] = search rules in
     let typed : IsTyped (context_of s) (Binary op (tree_of left) (tree_of right)) = subst (IsTyped (context_of s)) tree c.requires.typed in
-    IfSome_then c.applied.result c.applied.ensures
+    IfSome_then c.applied.result c.applied.ensures.chain
     (λ r made. subst (λ x. IsChainOf (context_of s) s.facts.zero c.args.operands.now c.args.after x r) (sym tree)
     (of_binary (context_of s) s.facts.zero c.args.operands.now c.args.after op (tree_of left) (tree_of right) d e r typed is other alone made))
 
-pub returns-in_ok-start-in-Mem : goal.returns-in_ok-start-in-Mem
-returns-in_ok-start-in-Mem t c =
+pub returns-in_ok-start-in-Mem-clause-chain : goal.returns-in_ok-start-in-Mem-clause-chain
+returns-in_ok-start-in-Mem-clause-chain t c =
     let s = c.args.state.now in
     let width = c.in-Mem.width in
     let address = c.in-Mem.address in
@@ -46,7 +46,7 @@ returns-in_ok-start-in-Mem t c =
     let tree : tree_of c.args.term.now ≡ Load width (tree_of address) = ap tree_of c.in-Mem.is ∙ tree_of-mem width address in
     let is : IsChainOf (context_of s) s.facts.zero c.args.operands.now c.args.after (tree_of address) d = search rules in
     let typed : IsTyped (context_of s) (Load width (tree_of address)) = subst (IsTyped (context_of s)) tree c.requires.typed in
-    IfSome_then c.linked.result c.linked.ensures
+    IfSome_then c.linked.result c.linked.ensures.chain
     (λ r made. subst (λ x. IsChainOf (context_of s) s.facts.zero c.args.operands.now c.args.after x r) (sym tree)
     (of_load (context_of s) s.facts.zero c.args.operands.now c.args.after width (c.bits.result / 8) (tree_of address) d r typed is
     (ap (λ n. n / 8) c.bits.ensures.value) made))

@@ -45,4 +45,4 @@ returns c =
     kept_made d s _ i c.args.size c.requires.made c.requires.found c.requires.size is refl bytes
     c.address_after-after.ensures.value
     (subst (λ xs. IfSome c.flatten-flat.result (λ flat. IsFlatListOf (context_of s) s.facts.zero i.rtl xs c.address_after-after.result flat.items))
-    c.as_slice-3.ensures c.flatten-flat.ensures)
+    c.as_slice-3.ensures c.flatten-flat.ensures.flat)

@@ -1,0 +1,11 @@
+mod ArgumentLists
+mod Faultless
+mod Folds
+mod Halvings
+mod Lasts
+mod LocalTables
+mod Lookups
+mod Written
+mod WrittenStatements
+mod ProcedureFaults
+mod ScopeTables

@@ -1,0 +1,13 @@
+pub mod Data
+pub mod Endings
+pub mod Expressions
+pub mod Faults
+pub mod Inner
+pub mod Measures
+pub mod Prims
+pub mod Procedures
+pub mod Scopes
+pub mod Statements
+pub mod Tables
+pub mod Typed
+pub mod Types

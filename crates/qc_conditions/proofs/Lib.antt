@@ -1,0 +1,11 @@
+mod Optional
+mod Rules
+mod Lines
+mod Shapes
+mod Operands
+mod Addresses
+mod Singles
+mod Writes
+mod Below
+mod RootWrites
+mod AllWrites

@@ -1,0 +1,4 @@
+pub mod Faults
+pub mod Tiles
+pub mod Trees
+pub mod Walks

@@ -1,0 +1,3 @@
+pub mod Anyhow
+pub mod Closed
+pub mod Lists

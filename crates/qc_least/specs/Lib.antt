@@ -1,0 +1,4 @@
+pub mod Choices
+pub mod Law
+pub mod Least
+pub mod Limits

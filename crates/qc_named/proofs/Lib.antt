@@ -1,0 +1,4 @@
+pub mod Arguments
+pub mod Cores
+pub mod Declared
+pub mod Lookups

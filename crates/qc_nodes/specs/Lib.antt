@@ -1,0 +1,4 @@
+pub mod Inner
+pub mod Needs
+pub mod Tasks
+pub mod Trees

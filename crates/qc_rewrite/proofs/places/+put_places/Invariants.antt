@@ -1,0 +1,4 @@
+use Rattle.qc_rewrite.proofs.places.+put_places.Given as goal
+
+abbrev pub decreases-put_places : goal.decreases-put_places
+decreases-put_places l = l.id

@@ -1,0 +1,5 @@
+//! Rows on derivations, by public calls alone.
+#![tactic(auto)]
+
+#[cfg(test)]
+mod derivations;

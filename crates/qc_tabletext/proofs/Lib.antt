@@ -1,0 +1,4 @@
+mod BoundedTexts
+mod RespelledTexts
+mod SameTexts
+pub mod Writing

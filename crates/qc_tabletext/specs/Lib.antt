@@ -1,0 +1,5 @@
+pub mod Bounded
+pub mod Printed
+pub mod TableText
+pub mod Vocabulary
+pub mod Written
