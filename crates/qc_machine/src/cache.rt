@@ -12,6 +12,9 @@ use std::alloc::Global;
 /// Of how many places the instance that was decoded last is kept.
 const PLACES: usize = 16_384;
 
+/// How often a place refuses to give up the instance that it keeps for another.
+const REFUSALS: u8 = 7;
+
 /// The number of an instance where none is kept.
 const NO_NUMBER: usize = usize::MAX;
 
@@ -29,9 +32,13 @@ pub(crate) struct Kept {
 /// The instances of one description that were decoded last, one at most for all addresses of a place, whose number among
 /// them `numbers` has. What is decoded at an address depends on the address and the bytes alone: so an instance is found
 /// again where its bytes stand at its address.
+///
+/// `refusals` has how many times more each place refuses another instance: where several addresses of one place take turns,
+/// one of them stays kept for a while, and what the others need is decoded without the price of keeping it.
 #[derive(Debug, Drop)]
 pub struct DecodeCache {
     numbers: [usize; PLACES],
+    refusals: [u8; PLACES],
     instances: Vec<Kept>,
 }
 
@@ -89,6 +96,7 @@ impl DecodeCache {
     {
         DecodeCache {
             numbers: [NO_NUMBER; PLACES],
+            refusals: [0; PLACES],
             instances: Vec::new(alloc),
         }
     }
@@ -106,6 +114,21 @@ impl DecodeCache {
             Some(kept)
         } else {
             None
+        }
+    }
+
+    /// Whether an instance at this address, which wasn't found, shall be kept now.
+    pub(crate) fn admits(&mut self, at: u64) -> bool
+        ensures { (d : Description) → IsCacheOf d self.old → IsCacheOf d self.new }
+    {
+        let place = place_of(at);
+        let refusals = self.refusals[place];
+        if refusals == 0 {
+            self.refusals[place] = REFUSALS;
+            true
+        } else {
+            self.refusals[place] = refusals - 1;
+            false
         }
     }
 

@@ -260,7 +260,7 @@ impl Machine {
     }
 
     /// What `step` does, sooner where the instance was kept in the cache, which is one of this description. One that
-    /// wasn't kept is now.
+    /// wasn't kept is now, where the cache admits it.
     pub fn step_cached(&mut self, descr: &Description, cache: &mut DecodeCache) -> Event
         requires valid { IsValid descr.now }
         requires made { IsMachineOf descr.now self.old }
@@ -276,7 +276,25 @@ impl Machine {
         if let Some(kept) = cache.kept_at(self.state.memory.as_slice(), pc) {
             return run_kept(descr, kept, &mut self.state);
         }
-        self.step_new(descr, cache)
+        self.step_missed(descr, cache)
+    }
+
+    /// The step of a machine that goes on, whose instance wasn't found in the cache.
+    #[inline(never)]
+    fn step_missed(&mut self, descr: &Description, cache: &mut DecodeCache) -> Event
+        requires running { self.old.ending ≡ None }
+        requires valid { IsValid descr.now }
+        requires made { IsMachineOf descr.now self.old }
+        requires cached { IsCacheOf descr.now cache.old }
+        ensures step { Steps descr.now self.old (record { state = self.new; event = result }) }
+        ensures kept { IsMachineOf descr.now self.new }
+        ensures cache { IsCacheOf descr.now cache.new }
+    {
+        if cache.admits(self.state.pc) {
+            self.step_new(descr, cache)
+        } else {
+            self.step(descr)
+        }
     }
 
     /// The step of a machine that goes on, whose instance is decoded and then kept. It isn't inlined, since its large locals

@@ -12,6 +12,8 @@ mod grammars;
 #[cfg(test)]
 mod machine_texts;
 #[cfg(test)]
+mod pieces;
+#[cfg(test)]
 mod sample;
 #[cfg(test)]
 mod tokens;

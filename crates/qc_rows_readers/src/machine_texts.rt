@@ -1,4 +1,5 @@
 //! Machine texts: read, refused, and printed.
+use crate::pieces::{joined, put_times};
 use qc_grammar::{Ident, Number, ReadTextEnd, ReadTextFault};
 use qc_lrtl::{Expr, Guard, Item, Operand, OperandKind, Param, Simple, read_lrtl, write_lrtl};
 use std::alloc::{AllocError, Global};
@@ -162,26 +163,6 @@ fn bad_bytes(rt: HostRuntime) {
     for (text, at) in BAD_BYTES {
         expect_fault(&rt, rt.alloc(), text, ReadTextFault::BadByte { at });
     }
-}
-
-/// These bytes, one after another.
-fn joined(
-    alloc: Global,
-    before: &[u8],
-    middle: &[u8],
-    after: &[u8],
-) -> Result<Vec<u8>, AllocError> {
-    let mut text = Vec::from_slice(alloc, before)?;
-    text.extend_from_slice(middle)?;
-    text.extend_from_slice(after)?;
-    Ok(text)
-}
-
-fn put_times(out: &mut Vec<u8>, text: &[u8], times: usize) -> Result<(), AllocError> {
-    for _ in 0..times {
-        out.extend_from_slice(text)?;
-    }
-    Ok(())
 }
 
 /// A function with so many open brackets in its body, and so many closed ones.
