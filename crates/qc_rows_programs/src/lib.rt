@@ -5,3 +5,5 @@
 
 #[cfg(test)]
 mod procedures;
+#[cfg(test)]
+mod widths;
