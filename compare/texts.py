@@ -1,8 +1,10 @@
-"""Compares the constants of crates/qc_shipped/src with the files of the folder machines, byte for byte.
+"""Compares the constants of crates/qc_shipped/src with the files of the folder machines, and those of
+crates/qc_shipped_tables/src with the files of the folder tables, byte for byte.
 
-A constant X_LRTL or X_SLED has the bytes of x.lrtl or x.sled. The data of the program's stored run has copies of some of
-these files. nib16 is the machine of docs/GUIDE.md, and no constant: its texts are the blocks of the guide. The exit status
-is 1, with a message, where a constant, a copy or a block and its file differ, or where one of the two is missing.
+A constant X_LRTL, X_SLED or X_TAB has the bytes of x.lrtl, x.sled or x.tab. The data of the program's stored run has copies
+of some of the machines' files. nib16 is the machine of docs/GUIDE.md, and no constant: its texts are the blocks of the
+guide. The exit status is 1, with a message, where a constant, a copy or a block and its file differ, or where one of the
+two is missing.
 """
 
 import re
@@ -26,7 +28,7 @@ def escaped(match):
 def constants():
     """The bytes of each constant, by the name of its file; and what is wrong with the constants."""
     texts, wrong = {}, []
-    for path in sorted((ROOT / "crates/qc_shipped/src").glob("*.rt")):
+    for path in sorted([*(ROOT / "crates/qc_shipped/src").glob("*.rt"), *(ROOT / "crates/qc_shipped_tables/src").glob("*.rt")]):
         source = path.read_bytes()
         if re.search(rb"\bpub const\b", CONSTANT.sub(b"", source)):
             wrong.append(f"{path.name}: a public constant in a form that is not understood")
@@ -58,7 +60,8 @@ def difference(file, constant, text):
 
 
 def main():
-    files = {path.name: path.read_bytes() for path in (ROOT / "machines").iterdir() if path.suffix in (".lrtl", ".sled")}
+    shipped = [*(ROOT / "machines").iterdir(), *(ROOT / "tables").iterdir()]
+    files = {path.name: path.read_bytes() for path in shipped if path.suffix in (".lrtl", ".sled", ".tab")}
     texts, wrong = constants()
     texts["nib16.lrtl"] = guide_blocks("## The machine's text", "## The coding's text")
     texts["nib16.sled"] = guide_blocks("## The coding's text", "## What is refused")
@@ -69,7 +72,7 @@ def main():
     copies = [path for path in (ROOT / "crates/quick/data").iterdir() if path.suffix in (".lrtl", ".sled")]
     wrong += [f"{path.name}: the copy in crates/quick/data differs" for path in copies if path.read_bytes() != files.get(path.name)]
     if not files:
-        wrong.append("machines: no files")
+        wrong.append("machines, tables: no files")
     for message in wrong:
         print(message)
     if not wrong:
